@@ -1,0 +1,15 @@
+//! What every crate of the decompiler speaks of: the numbers that name types and members, the types of
+//! values (ECMA-335 I.8.2), the lists that public fields hold, and the answer for want of memory.
+#![tactic(auto)]
+
+mod failure;
+mod list;
+mod names;
+mod stack;
+mod ty;
+
+pub use failure::{NoMemory, Or};
+pub use list::Seq;
+pub use names::{MemberId, Token, TypeId};
+pub use stack::Stack;
+pub use ty::{Core, Prim_, Ty};
