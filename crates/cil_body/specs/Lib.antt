@@ -1,0 +1,4 @@
+pub mod Opcode
+pub mod Instruction
+pub mod Cut
+pub mod Lone
