@@ -3,13 +3,21 @@
 #![tactic(auto)]
 
 mod failure;
+mod gate;
 mod list;
 mod names;
+mod shelf;
+mod sink;
 mod stack;
+mod text;
 mod ty;
 
 pub use failure::{NoMemory, Or};
+pub use gate::{Gate, OpenGate};
 pub use list::Seq;
 pub use names::{MemberId, Token, TypeId};
+pub use shelf::{Shelf, TakeFault};
+pub use sink::{Failed, Sink};
 pub use stack::Stack;
+pub use text::Text;
 pub use ty::{Core, Prim_, Ty};

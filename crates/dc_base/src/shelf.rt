@@ -1,0 +1,38 @@
+// Where files are read from.
+
+ghost use Rattle.std.specs.Prelude.{◌≡◌, ◌≤◌, ℕ, List, Option};
+ghost use Rattle.dc_base.specs.Outside.{Takes, CountsTake};
+
+use crate::{Or, Text};
+use std::alloc::Global;
+
+/// Why a file wasn't given. `Longer` has the number of bytes that the file has, as far as they are known.
+#[derive(Clone, Copy, Debug)]
+pub enum TakeFault {
+    Longer(u64),
+    Failed,
+}
+
+/// Files by name.
+pub trait Shelf {
+    /// The bytes of each file by its name; none where the shelf doesn't tell them.
+    ghost files: { Self → Option (List ℕ → Option (List ℕ)) };
+
+    /// How many calls have failed, up to 2^64 - 1.
+    ghost faults: { Self → ℕ };
+
+    /// The name that the last failed call was given.
+    ghost last: { Self → Option (List ℕ) };
+
+    /// The bytes of the file, of which there may be `limit`. A file that isn't there is a failed call.
+    fn take(&mut self, alloc: Global, name: &Text, limit: u64) -> Result<Vec<u8>, Or<TakeFault>>
+        // An answer that gives a file or its length is about the file of that name, where files are told.
+        ensures takes { Takes (files self.old) name.now limit result }
+
+        // A failed call raises the count and leaves its name; no other call touches either.
+        ensures counts { CountsTake name.now (faults self.old) (faults self.new) (last self.old) (last self.new) result }
+        ensures never_falls { faults self.old ≤ faults self.new }
+
+        // Reading changes no file.
+        ensures files { files self.new ≡ files self.old };
+}
