@@ -1,7 +1,7 @@
 // The instructions and their table.
 
 ghost use Rattle.std.specs.Prelude.{◌≡◌};
-ghost use Rattle.cil_body.specs.Opcode.{row_of, operand_len};
+ghost use Rattle.cil_body.specs.Opcode.{row_of, operand_len, size_of};
 
 /// An instruction's mnemonic (ECMA-335 III.3).
 #[derive(Clone, Copy, Debug, PartialEq, Eq)]
@@ -173,6 +173,17 @@ pub const TABLE: [Entry; 20] = [
 ];
 
 impl Op {
+    /// The bytes of the instruction: its opcode and its operand.
+    pub fn size(self) -> u32
+        ensures { result ≡ size_of self }
+    {
+        match self {
+            Op::LdcI4S => 2,
+            Op::LdcI4 => 5,
+            _ => 1,
+        }
+    }
+
     /// What the instruction does.
     pub fn row(self) -> Row
         ensures { result ≡ row_of self }
