@@ -14,3 +14,8 @@ abbrev pub Cuts : ℕ → List ℕ → List Placed → ℕ → List ℕ → Type
 Cuts at bytes [] end rest = (end ≡ at) × (rest ≡ bytes)
 Cuts at bytes (e ∷ code) end rest =
     (e.0 ≡ at) × (instruction_at bytes ≡ Ok e.1) × Cuts (at + size_of e.1.op) (drop (size_of e.1.op) bytes) code end rest
+
+-- From place `at` on these instructions stand one directly behind the other, up to place `end`.
+abbrev pub IsConsecutive : ℕ → List Placed → ℕ → Type 0
+IsConsecutive at [] end = end ≡ at
+IsConsecutive at (e ∷ code) end = (e.0 ≡ at) × IsConsecutive (at + size_of e.1.op) code end

@@ -1,10 +1,12 @@
 -- A lone body: a file that is one body with a tiny header (ECMA-335 II.25.4.2), which takes four ints and returns one.
-use Rattle.std.specs.Prelude.{◌≡◌, ◌≢◌, ◌⊎◌, ℕ, ◌+◌, ◌-◌, ◌/◌, ◌%◌, ◌<◌, List, [], ◌∷◌, ◌++◌, length, take, drop, Err}
+use Rattle.std.specs.Prelude.{◌≡◌, ◌≢◌, ◌⊎◌, ℕ, ◌+◌, ◌-◌, ◌/◌, ◌%◌, ◌<◌, ◌≤◌, List, [], ◌∷◌, ◌++◌, length, take, drop, Err}
 use Rattle.dc_base.specs.declared.failure.Or.{Or}
 use Rattle.dc_base.specs.declared.failure.Or.TheVariants.{NoMemory, Fault}
 use Rattle.cil_body.specs.declared.opcode.Row.{Row}
 use Rattle.cil_body.specs.declared.opcode.Row.TheVariants.{Load, Binary, Return}
 use Rattle.cil_body.specs.declared.instruction.Simple.{Simple}
+use Rattle.cil_body.specs.declared.instruction.BodyFault.{BodyFault}
+use Rattle.cil_body.specs.declared.instruction.BodyCause.{BodyCause}
 use Rattle.cil_body.specs.declared.instruction.BodyCause.TheVariants.{NotYet as NotYetHere, Truncated as TruncatedHere}
 use Rattle.cil_body.specs.declared.standalone.LoneFault.{LoneFault}
 use Rattle.cil_body.specs.declared.standalone.LoneFault.TheVariants.{BadHeader, Truncated, NotYet, Underflow, BadReturn, Trailing}
@@ -86,6 +88,12 @@ IsFineBefore code end place = (p : ℕ) → p < place → (Underflows code p →
 abbrev pub IsBalanced : List Placed → ℕ → Type 0
 IsBalanced code end = (p : ℕ) → (Underflows code p → ⊥) × (IsBadReturn code end p → ⊥)
 
+-- the first place where the code does wrong by the stack or the end
+abbrev pub IsBreak : List Placed → ℕ → LoneFault → Type 0
+IsBreak code end (Underflow place) = IsFineBefore code end place × Underflows code place
+IsBreak code end (BadReturn place) = IsFineBefore code end place × IsBadReturn code end place
+IsBreak code end _ = ⊥
+
 -- the file is a lone body with these instructions
 pub record IsLone (file : List ℕ) (code : List Placed) : Type 0 where
   pub size : ℕ
@@ -122,7 +130,29 @@ IsLoneFault file (BadReturn place) = (at : Reaches file place) × IsBadReturn at
 IsLoneFault file (Trailing place) =
     (size : ℕ) × (code : List Placed) × IsCut file size code × IsBalanced code (size + 1) × (place ≡ size + 1) × (place < length file)
 
+-- the fault of a file whose cut stops
+abbrev pub stop_of : BodyCause → ℕ → Or LoneFault
+stop_of (NotYetHere byte) place = Fault (NotYet byte place)
+stop_of TruncatedHere place = Fault (Truncated place)
+
+abbrev pub fault_of : BodyFault → Or LoneFault
+fault_of fault = stop_of fault.cause fault.at
+
 -- the fault of a call, unless it wanted memory
 abbrev pub IsRefused : List ℕ → Or LoneFault → Type 0
 IsRefused file NoMemory = Unit {0}
 IsRefused file (Fault fault) = IsLoneFault file fault
+
+-- an instruction on a stack of `depth` slots does its part, where `code` stands behind it and `goes_on` says that
+-- `code` does too
+abbrev pub DoesItsPart : Row → ℕ → List Placed → Type 0 → Type 0
+DoesItsPart (Load source) depth code goes_on = goes_on
+DoesItsPart (Binary two) depth code goes_on = (2 ≤ depth) × goes_on
+DoesItsPart Return depth code goes_on = (depth ≡ 1) × (code ≡ [])
+
+-- begun on a stack of `depth` slots, the code runs to its last instruction, a ret that finds one slot, and each
+-- operator before it finds two
+abbrev pub Walks : ℕ → List Placed → Type 0
+Walks depth [] = ⊥
+Walks depth (e ∷ code) =
+    DoesItsPart (row_of e.1.op) depth code (Walks (depth_after depth (row_of e.1.op)) code)

@@ -4,9 +4,11 @@
 #![tactic(auto)]
 
 mod instruction;
+mod laws;
 mod opcode;
 mod standalone;
 
-pub use instruction::{BodyCause, BodyFault, Simple};
+pub use instruction::{BodyCause, BodyFault, Simple, next};
+pub use laws::{balance_is_a_walk, code_fills_the_file, one_reading, table_is_the_standards};
 pub use opcode::{Entry, Op, Operand, Row, Source, TABLE, Two};
-pub use standalone::LoneFault;
+pub use standalone::{LoneFault, lone};

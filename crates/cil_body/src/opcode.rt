@@ -1,7 +1,7 @@
 // The instructions and their table.
 
 ghost use Rattle.std.specs.Prelude.{◌≡◌};
-ghost use Rattle.cil_body.specs.Opcode.{row_of, operand_len, size_of};
+ghost use Rattle.cil_body.specs.Opcode.{row_of, operand_len, operand_of, size_of};
 
 /// An instruction's mnemonic (ECMA-335 III.3).
 #[derive(Clone, Copy, Debug, PartialEq, Eq)]
@@ -173,17 +173,6 @@ pub const TABLE: [Entry; 20] = [
 ];
 
 impl Op {
-    /// The bytes of the instruction: its opcode and its operand.
-    pub fn size(self) -> u32
-        ensures { result ≡ size_of self }
-    {
-        match self {
-            Op::LdcI4S => 2,
-            Op::LdcI4 => 5,
-            _ => 1,
-        }
-    }
-
     /// What the instruction does.
     pub fn row(self) -> Row
         ensures { result ≡ row_of self }
@@ -209,6 +198,24 @@ impl Op {
             Op::Mul => Row::Binary(Two::Mul),
             Op::Ret => Row::Return,
         }
+    }
+
+    /// What follows the opcode.
+    pub fn operand(self) -> Operand
+        ensures { result ≡ operand_of self }
+    {
+        match self {
+            Op::LdcI4S => Operand::Int8,
+            Op::LdcI4 => Operand::Int32,
+            _ => Operand::Absent,
+        }
+    }
+
+    /// The bytes of the instruction: its opcode and its operand.
+    pub fn size(self) -> usize
+        ensures { result ≡ size_of self }
+    {
+        1 + self.operand().len()
     }
 }
 
