@@ -1,10 +1,11 @@
 // What an instruction does, by its row.
 
-ghost use Rattle.std.specs.Prelude.{◌≡◌, ◌∷◌, IfOk, List, ℤ};
+ghost use Rattle.std.specs.Prelude.{◌≡◌, ◌+◌, ◌^◌, ◌∷◌, IfOk, nat_lt, if◌then◌else◌};
+ghost use Rattle.cil_body.specs.Opcode.{size_of};
 ghost use Rattle.cil_meaning.specs.Step.{act_of, onward_of, loaded_of, result_of, binary_of, return_of};
 
 use crate::{LoneState, LoneStepped};
-use cil_body::{Row, Simple, Source, Two};
+use cil_body::{Op, Row, Simple, Source, Two};
 use dc_base::NoMemory;
 
 pub(crate) fn act(simple: Simple, state: LoneState) -> Result<LoneStepped, NoMemory>
@@ -38,7 +39,7 @@ fn onward(simple: Simple, state: LoneState, value: i32) -> Result<LoneStepped, N
         mut stack,
         args,
     } = state;
-    match at.checked_add(simple.op.size()) {
+    match place_after(at, simple.op) {
         Some(at) => {
             stack.push(value)?;
             Ok(LoneStepped::Next(LoneState { at, stack, args }))
@@ -82,4 +83,11 @@ fn returned(state: LoneState) -> LoneStepped
         Some(value) if stack.is_empty() => LoneStepped::Done(value),
         _ => LoneStepped::Stuck,
     }
+}
+
+fn place_after(at: u32, op: Op) -> Option<u32>
+    ensures { result ≡ (if nat_lt (at + size_of op) (2 ^ 32) then Some (at + size_of op) else None) }
+{
+    let after = (at as usize).checked_add(op.size())?;
+    u32::try_from(after).ok()
 }

@@ -1,0 +1,4 @@
+pub mod Assigned
+pub mod Meaning
+pub mod Ran
+pub mod Typed
