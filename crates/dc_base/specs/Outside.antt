@@ -7,6 +7,10 @@ use Rattle.dc_base.specs.declared.shelf.TakeFault.{TakeFault}
 use Rattle.dc_base.specs.declared.shelf.TakeFault.TheVariants.{Longer, Failed as FailedTake}
 use Rattle.dc_base.specs.declared.sink.Failed.{Failed}
 
+-- one more, in a count that stands still at the end of its type
+abbrev pub one_more : ℕ → ℕ
+one_more n = min (n + 1) (2 ^ 64 - 1)
+
 -- a count of faults has risen, or stands at the end of its type
 abbrev pub HasRisen : ℕ → ℕ → Type 0
 HasRisen before now = min (before + 1) (2 ^ 64 - 1) ≤ now
@@ -30,10 +34,8 @@ Takes files name limit (Err NoMemory) = ⊤
 
 -- how a call to a shelf counts: a failed one raises the count and is the last that failed, any other leaves both
 abbrev pub CountsTake : List ℕ → ℕ → ℕ → Option (List ℕ) → Option (List ℕ) → Result (Vec ℕ Global) (Or TakeFault) → Type 0
-CountsTake name before now last_before last_now (Ok _) = (now ≡ before) × (last_now ≡ last_before)
-CountsTake name before now last_before last_now (Err (Fault (Longer _))) = (now ≡ before) × (last_now ≡ last_before)
 CountsTake name before now last_before last_now (Err (Fault FailedTake)) = HasRisen before now × (last_now ≡ Some name)
-CountsTake name before now last_before last_now (Err NoMemory) = (now ≡ before) × (last_now ≡ last_before)
+CountsTake name before now last_before last_now _ = (now ≡ before) × (last_now ≡ last_before)
 
 -- what a call to a sink takes: a front of the piece, of a byte at least, or nothing where it failed
 abbrev pub Puts : List ℕ → Option (List ℕ) → Option (List ℕ) → Result ℕ Failed → Type 0

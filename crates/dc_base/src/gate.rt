@@ -12,3 +12,17 @@ pub struct OpenGate;
 impl Gate for OpenGate {
     fn pass(&self, _worker: u32) {}
 }
+
+#[cfg(test)]
+mod tests {
+    use super::*;
+
+    fn pass<G: Gate + Sync>(gate: &G) {
+        gate.pass(0);
+    }
+
+    #[test]
+    fn an_open_gate_can_be_shared() {
+        pass(&OpenGate);
+    }
+}

@@ -6,7 +6,8 @@ ghost use Rattle.dc_base.specs.Outside.{Takes, CountsTake};
 use crate::{Or, Text};
 use std::alloc::Global;
 
-/// Why a file wasn't given. `Longer` has the number of bytes that the file has, as far as they are known.
+/// Why a file wasn't given. `Longer` has a number of bytes above the limit, which a shelf that tells its
+/// files makes the file's length. `Failed` is a failed read or a file that isn't there.
 #[derive(Clone, Copy, Debug)]
 pub enum TakeFault {
     Longer(u64),
@@ -24,13 +25,14 @@ pub trait Shelf {
     /// The name that the last failed call was given.
     ghost last: { Self → Option (List ℕ) };
 
-    /// The bytes of the file, of which there may be `limit`. A file that isn't there is a failed call.
+    /// All bytes of the file, at most `limit` of them. A file that isn't there is a failed call.
     fn take(&mut self, alloc: Global, name: &Text, limit: u64) -> Result<Vec<u8>, Or<TakeFault>>
         // An answer that gives a file or its length is about the file of that name, where files are told.
         ensures takes { Takes (files self.old) name.now limit result }
 
         // A failed call raises the count and leaves its name; no other call touches either.
-        ensures counts { CountsTake name.now (faults self.old) (faults self.new) (last self.old) (last self.new) result }
+        ensures counts { CountsTake name.now (faults self.old) (faults self.new) (last self.old)
+            (last self.new) result }
         ensures never_falls { faults self.old ≤ faults self.new }
 
         // Reading changes no file.

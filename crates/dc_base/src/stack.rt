@@ -55,3 +55,23 @@ impl<T: Drop> Stack<T> {
         Ok(())
     }
 }
+
+#[cfg(test)]
+mod tests {
+    use super::*;
+    use crate::Seq;
+    use std::test::Fail;
+
+    #[test]
+    fn gives_back_the_last_first(rt: HostRuntime) -> Result<(), Fail> {
+        let mut stack = Stack::new(rt.alloc());
+        let items = Seq::of(Vec::from_slice(rt.alloc(), &[1, 2])?);
+        for item in items.items() {
+            stack.push(*item)?;
+        }
+        assert_eq!(rt; stack.pop(), Some(2));
+        assert_eq!(rt; items.into_vec().as_slice(), [1, 2].as_slice());
+        assert!(rt; !stack.is_empty());
+        Ok(())
+    }
+}

@@ -53,3 +53,21 @@ impl Text {
         Text::of(alloc, self.as_str())
     }
 }
+
+#[cfg(test)]
+mod tests {
+    use super::*;
+    use std::test::Fail;
+
+    #[test]
+    fn keeps_its_bytes(rt: HostRuntime) -> Result<(), Fail> {
+        let alloc = rt.alloc();
+        for s in ["", "sum.body", "caf\u{e9}"] {
+            let text = Text::of(alloc, s)?;
+            assert_eq!(rt; text.as_str(), s);
+            assert_eq!(rt; text.copied(alloc)?.as_str(), s);
+            assert_eq!(rt; Text::from_string(String::from_str(alloc, s)?).as_str(), s);
+        }
+        Ok(())
+    }
+}

@@ -1,4 +1,0 @@
-pub mod Assigned
-pub mod Meaning
-pub mod Ran
-pub mod Typed
