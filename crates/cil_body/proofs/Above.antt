@@ -1,0 +1,52 @@
+-- What the crates above take from a lone body.
+use Rattle.std.proofs.Common.{◌≡◌, ℕ, ◌+◌, ◌-◌, ◌<◌, ◌≤◌, List, [], ◌∷◌, ◌++◌, length, get_or, drop, arith, sym, subst, ap, ◌∙◌, refl}
+use Rattle.std.proofs.lemmas.List.{drop-drop}
+use Rattle.std.specs.Int.{w32}
+use Rattle.std.specs.Int.RustNames.{FitsSigned}
+use Rattle.cil_body.specs.Opcode.{size_of}
+use Rattle.cil_body.specs.Cut.{Placed, Cuts}
+use Rattle.cil_body.specs.Lone.{code_bytes, IsLone, Walks}
+use Rattle.cil_body.proofs.Walk.{Walks-from_balanced}
+use Rattle.cil_body.proofs.Fields.{consecutive_within, Cuts-operand}
+use Rattle.cil_body.proofs.Reading.{IsLone-consecutive}
+
+pub IsLone-walks : (file : List ℕ) (code : List Placed) → IsLone file code → Walks 0 code
+IsLone-walks file code l = Walks-from_balanced code (l.size + 1) l.balanced
+
+pub IsLone-operand : (file : List ℕ) (code : List Placed) → IsLone file code → (k : ℕ) (d : Placed) → k < length code → FitsSigned w32 (get_or code k d).1.arg
+IsLone-operand file code l = Cuts-operand 1 (code_bytes file l.size) code (l.size + 1) [] l.cut.1
+
+pub IsLone-place : (file : List ℕ) (code : List Placed) → IsLone file code → (k : ℕ) (d : Placed) → k < length code → (get_or code k d).0 < length file
+IsLone-place file code l = consecutive_within 1 code (length file) (IsLone-consecutive file code l)
+
+-- A cut in two: where the second part begins, with the bytes that it begins at.
+pub record IsSplit (at : ℕ) (bytes : List ℕ) (before code : List Placed) (end : ℕ) (rest : List ℕ) : Type 0 where
+  pub mid : ℕ
+  pub from : at ≤ mid
+  pub front : Cuts at bytes before mid (drop (mid - at) bytes)
+  pub back : Cuts mid (drop (mid - at) bytes) code end rest
+
+pub Cuts-split :
+    (at : ℕ) (bytes : List ℕ) (before code : List Placed) (end : ℕ) (rest : List ℕ) → Cuts at bytes (before ++ code) end rest → IsSplit at bytes before code end rest
+Cuts-split at bytes [] code end rest h =
+    let none : at - at ≡ 0 = omega arith in
+    let same : drop (at - at) bytes ≡ bytes = ap (λ (n : ℕ). drop n bytes) none in
+    record {
+      mid = at;
+      from = omega arith;
+      front = (refl, same);
+      back = subst (λ (xs : List ℕ). Cuts at xs code end rest) (sym same) h;
+    }
+Cuts-split at bytes (e ∷ before) code end rest h =
+    let s = Cuts-split (at + size_of e.1.op) (drop (size_of e.1.op) bytes) before code end rest h.2 in
+    let le : at + size_of e.1.op ≤ s.mid = s.from in
+    let far : size_of e.1.op + (s.mid - (at + size_of e.1.op)) ≡ s.mid - at = omega arith in
+    let same : drop (s.mid - (at + size_of e.1.op)) (drop (size_of e.1.op) bytes) ≡ drop (s.mid - at) bytes =
+    drop-drop (s.mid - (at + size_of e.1.op)) (size_of e.1.op) bytes ∙ ap (λ (n : ℕ). drop n bytes) far in
+    record {
+      mid = s.mid;
+      from = omega arith;
+      front =
+          (h.0, h.1, subst (λ (xs : List ℕ). Cuts (at + size_of e.1.op) (drop (size_of e.1.op) bytes) before s.mid xs) same s.front);
+      back = subst (λ (xs : List ℕ). Cuts s.mid xs code end rest) same s.back;
+    }

@@ -1,0 +1,251 @@
+-- Where code does wrong, from front to back: what is said by sets of places is said again of the code behind its
+-- first instruction, begun at another depth.
+use Rattle.std.proofs.Common.{◌≡◌, ◌≢◌, ◌⊎◌, ℕ, ◌<◌, ◌≤◌, List, [], ◌∷◌, ◌++◌, refl, sym, ◌∙◌, ap, subst, inl, inr, arith}
+use Rattle.cil_body.specs.declared.opcode.Row.{Row}
+use Rattle.cil_body.specs.declared.opcode.Row.TheVariants.{Load, Binary, Return}
+use Rattle.cil_body.specs.declared.instruction.Simple.{Simple}
+use Rattle.cil_body.specs.Opcode.{row_of}
+use Rattle.cil_body.specs.Cut.{Placed}
+use Rattle.cil_body.specs.Lone.{depth_after, depth_of, IsOperator, IsReturn, Stands, Underflows, ReturnsBadly, HasNoReturn, IsBalanced, DoesItsPart, Walks}
+
+-- `Underflows`, begun at a depth
+pub record UnderflowsFrom (depth : ℕ) (code : List Placed) (place : ℕ) : Type 0 where
+  pub before : List Placed
+  pub after : List Placed
+  pub i : Simple
+  pub stands : Stands code before place i after
+  pub operator : IsOperator (row_of i.op)
+  pub shallow : depth_of depth before < 2
+
+-- `ReturnsBadly`, begun at a depth
+pub record ReturnsBadlyFrom (depth : ℕ) (code : List Placed) (place : ℕ) : Type 0 where
+  pub before : List Placed
+  pub after : List Placed
+  pub i : Simple
+  pub stands : Stands code before place i after
+  pub returns : IsReturn (row_of i.op)
+  pub badly : (depth_of depth before ≢ 1) ⊎ (after ≢ [])
+
+-- the first instruction is the one, or the wrong is behind it
+module _ (depth : ℕ) (e : Placed) (code : List Placed) (place : ℕ) where
+  abbrev pub FirstUnderflows : Type 0
+  FirstUnderflows = IsOperator (row_of e.1.op) × (e.0 ≡ place) × (depth < 2)
+
+  abbrev pub FirstReturnsBadly : Type 0
+  FirstReturnsBadly = IsReturn (row_of e.1.op) × (e.0 ≡ place) × ((depth ≢ 1) ⊎ (code ≢ []))
+
+  peel_underflow_at :
+      (before after : List Placed) (i : Simple) → Stands (e ∷ code) before place i after → IsOperator (row_of i.op) → depth_of depth before < 2 → FirstUnderflows ⊎ UnderflowsFrom (depth_after depth (row_of e.1.op)) code place
+  peel_underflow_at [] after i s o d =
+      let head : e ≡ (place, i) = cc in
+      inl (subst (λ (x : Placed). IsOperator (row_of x.1.op)) (sym head) o, ap (λ (x : Placed). x.0) head, d)
+  peel_underflow_at (b ∷ before) after i s o d =
+      let head : b ≡ e = cc in
+      let tail : code ≡ before ++ (place, i) ∷ after = cc in
+      inr (record {
+        before = before;
+        after = after;
+        i = i;
+        stands = tail;
+        operator = o;
+        shallow = subst (λ (x : Placed). depth_of (depth_after depth (row_of x.1.op)) before < 2) head d;
+      })
+
+  pub peel_underflow : UnderflowsFrom depth (e ∷ code) place → FirstUnderflows ⊎ UnderflowsFrom (depth_after depth (row_of e.1.op)) code place
+  peel_underflow u = peel_underflow_at u.before u.after u.i u.stands u.operator u.shallow
+
+  peel_return_at :
+      (before after : List Placed) (i : Simple) → Stands (e ∷ code) before place i after → IsReturn (row_of i.op) → (depth_of depth before ≢ 1) ⊎ (after ≢ []) → FirstReturnsBadly ⊎ ReturnsBadlyFrom (depth_after depth (row_of e.1.op)) code place
+  peel_return_at [] after i s o d =
+      let head : e ≡ (place, i) = cc in
+      let tail : after ≡ code = cc in
+      inl (subst (λ (x : Placed). IsReturn (row_of x.1.op)) (sym head) o, ap (λ (x : Placed). x.0) head, subst (λ (xs : List Placed). (depth ≢ 1) ⊎ (xs ≢ [])) tail d)
+  peel_return_at (b ∷ before) after i s o d =
+      let head : b ≡ e = cc in
+      let tail : code ≡ before ++ (place, i) ∷ after = cc in
+      inr (record {
+        before = before;
+        after = after;
+        i = i;
+        stands = tail;
+        returns = o;
+        badly = subst (λ (x : Placed). (depth_of (depth_after depth (row_of x.1.op)) before ≢ 1) ⊎ (after ≢ [])) head d;
+      })
+
+  pub peel_return : ReturnsBadlyFrom depth (e ∷ code) place → FirstReturnsBadly ⊎ ReturnsBadlyFrom (depth_after depth (row_of e.1.op)) code place
+  peel_return u = peel_return_at u.before u.after u.i u.stands u.returns u.badly
+
+  pub push_underflow : UnderflowsFrom (depth_after depth (row_of e.1.op)) code place → UnderflowsFrom depth (e ∷ code) place
+  push_underflow u =
+      record {
+        before = e ∷ u.before;
+        after = u.after;
+        i = u.i;
+        stands = ap (λ xs. e ∷ xs) u.stands;
+        operator = u.operator;
+        shallow = u.shallow;
+      }
+
+  pub push_return : ReturnsBadlyFrom (depth_after depth (row_of e.1.op)) code place → ReturnsBadlyFrom depth (e ∷ code) place
+  push_return u =
+      record {
+        before = e ∷ u.before;
+        after = u.after;
+        i = u.i;
+        stands = ap (λ xs. e ∷ xs) u.stands;
+        returns = u.returns;
+        badly = u.badly;
+      }
+
+  first_stands : e.0 ≡ place → Stands (e ∷ code) [] place e.1 code
+  first_stands p =
+      let move : ℕ → List Placed = λ x. (x, e.1) ∷ code in
+      ap move p
+
+  pub first_underflows : IsOperator (row_of e.1.op) → e.0 ≡ place → depth < 2 → UnderflowsFrom depth (e ∷ code) place
+  first_underflows o p d =
+      record {
+        before = [];
+        after = code;
+        i = e.1;
+        stands = first_stands p;
+        operator = o;
+        shallow = d;
+      }
+
+  pub first_returns_badly : IsReturn (row_of e.1.op) → e.0 ≡ place → (depth ≢ 1) ⊎ (code ≢ []) → ReturnsBadlyFrom depth (e ∷ code) place
+  first_returns_badly o p d =
+      record {
+        before = [];
+        after = code;
+        i = e.1;
+        stands = first_stands p;
+        returns = o;
+        badly = d;
+      }
+
+pub HasNoReturn-nil : HasNoReturn []
+HasNoReturn-nil [] after place i s r = cc
+HasNoReturn-nil (b ∷ before) after place i s r = cc
+
+pub HasNoReturn-tail : (e : Placed) (code : List Placed) → HasNoReturn (e ∷ code) → HasNoReturn code
+HasNoReturn-tail e code n before after place i s r = n (e ∷ before) after place i (ap (λ xs. e ∷ xs) s) r
+
+pub HasNoReturn-cons : (e : Placed) (code : List Placed) → (IsReturn (row_of e.1.op) → ⊥) → HasNoReturn code → HasNoReturn (e ∷ code)
+HasNoReturn-cons e code h n [] after place i s r =
+    let head : e ≡ (place, i) = cc in
+    h (subst (λ (x : Placed). IsReturn (row_of x.1.op)) (sym head) r)
+HasNoReturn-cons e code h n (b ∷ before) after place i s r =
+    let tail : code ≡ before ++ (place, i) ∷ after = cc in
+    n before after place i tail r
+
+-- what a step of a walk says, without its row
+module _ (depth : ℕ) (code : List Placed) (W : Type 0) where
+  DoesItsPart-says :
+      (r : Row) → DoesItsPart r depth code W → (IsOperator r → 2 ≤ depth) × (IsReturn r → (depth ≡ 1) × (code ≡ [])) × ((IsReturn r → ⊥) → W)
+  DoesItsPart-says (Load s) w = (λ o. absurd o, λ o. absurd o, λ _. w)
+  DoesItsPart-says (Binary t) w = (λ _. w.0, λ o. absurd o, λ _. w.1)
+  DoesItsPart-says Return w = (λ o. absurd o, λ _. w, λ n. absurd (n tt))
+
+  DoesItsPart-from :
+      (r : Row) → (IsOperator r → 2 ≤ depth) → (IsReturn r → (depth ≡ 1) × (code ≡ [])) → ((IsReturn r → ⊥) → W) → DoesItsPart r depth code W
+  DoesItsPart-from (Load s) o r w = w (λ x. x)
+  DoesItsPart-from (Binary t) o r w = (o tt, w (λ x. x))
+  DoesItsPart-from Return o r w = r tt
+
+pub is_return : (r : Row) → IsReturn r ⊎ (IsReturn r → ⊥)
+is_return (Load s) = inr (λ x. x)
+is_return (Binary t) = inr (λ x. x)
+is_return Return = inl tt
+
+pub nothing_stands : (before after : List Placed) (place : ℕ) (i : Simple) → [] ≡ before ++ (place, i) ∷ after → ⊥
+nothing_stands [] after place i s = cc
+nothing_stands (b ∷ before) after place i s = cc
+
+-- code that walks does nothing wrong
+pub Walks-no_underflow : (depth : ℕ) (code : List Placed) (place : ℕ) → Walks depth code → UnderflowsFrom depth code place → ⊥
+Walks-no_underflow depth [] place w u = w
+Walks-no_underflow depth (e ∷ code) place w u =
+    let says = DoesItsPart-says depth code (Walks (depth_after depth (row_of e.1.op)) code) (row_of e.1.op) w in
+    elim (peel_underflow depth e code place u) [
+      | inl f ↦ let two : 2 ≤ depth = says.0 f.0 in
+          let less : depth < 2 = f.2 in
+          absurd (omega arith)
+      | inr v ↦ elim (is_return (row_of e.1.op)) [
+        | inl r ↦ nothing_stands v.before v.after place v.i (sym (says.1 r).1 ∙ v.stands)
+        | inr n ↦ Walks-no_underflow (depth_after depth (row_of e.1.op)) code place (says.2 n) v
+      ]
+    ]
+
+pub Walks-no_bad_return : (depth : ℕ) (code : List Placed) (place : ℕ) → Walks depth code → ReturnsBadlyFrom depth code place → ⊥
+Walks-no_bad_return depth [] place w u = w
+Walks-no_bad_return depth (e ∷ code) place w u =
+    let says = DoesItsPart-says depth code (Walks (depth_after depth (row_of e.1.op)) code) (row_of e.1.op) w in
+    elim (peel_return depth e code place u) [
+      | inl f ↦ elim f.2 [ inl d ↦ d (says.1 f.0).0 | inr c ↦ c (says.1 f.0).1 ]
+      | inr v ↦ elim (is_return (row_of e.1.op)) [
+        | inl r ↦ nothing_stands v.before v.after place v.i (sym (says.1 r).1 ∙ v.stands)
+        | inr n ↦ Walks-no_bad_return (depth_after depth (row_of e.1.op)) code place (says.2 n) v
+      ]
+    ]
+
+pub Walks-returns : (depth : ℕ) (code : List Placed) → Walks depth code → HasNoReturn code → ⊥
+Walks-returns depth [] w n = w
+Walks-returns depth (e ∷ code) w n =
+    let says = DoesItsPart-says depth code (Walks (depth_after depth (row_of e.1.op)) code) (row_of e.1.op) w in
+    elim (is_return (row_of e.1.op)) [
+      | inl r ↦ n [] code e.0 e.1 refl r
+      | inr m ↦ Walks-returns (depth_after depth (row_of e.1.op)) code (says.2 m) (HasNoReturn-tail e code n)
+    ]
+
+pub at_least_two : (depth : ℕ) → (depth < 2 → ⊥) → 2 ≤ depth
+at_least_two depth h = grind arith
+
+pub just_one : (depth : ℕ) → (depth ≢ 1 → ⊥) → depth ≡ 1
+just_one depth h = grind arith
+
+pub just_nil : (code : List Placed) → (code ≢ [] → ⊥) → code ≡ []
+just_nil [] h = refl
+just_nil (e ∷ code) h = absurd (h (λ x. cc))
+
+-- code that does nothing wrong walks
+pub Walks-from :
+    (depth : ℕ) (code : List Placed) → ((place : ℕ) → UnderflowsFrom depth code place → ⊥) → ((place : ℕ) → ReturnsBadlyFrom depth code place → ⊥) → (HasNoReturn code → ⊥) → Walks depth code
+Walks-from depth [] u r n = n HasNoReturn-nil
+Walks-from depth (e ∷ code) u r n =
+    DoesItsPart-from depth code (Walks (depth_after depth (row_of e.1.op)) code) (row_of e.1.op)
+    (λ o. at_least_two depth (λ d. u e.0 (first_underflows depth e code e.0 o refl d)))
+    (λ o. (just_one depth (λ d. r e.0 (first_returns_badly depth e code e.0 o refl (inl d))), just_nil code (λ d. r e.0 (first_returns_badly depth e code e.0 o refl (inr d)))))
+    (λ m. Walks-from (depth_after depth (row_of e.1.op)) code (λ place v. u place (push_underflow depth e code place v)) (λ place v. r place (push_return depth e code place v)) (λ t. n (HasNoReturn-cons e code m t)))
+
+-- from the empty stack, these are the definitions
+pub underflows_from : (code : List Placed) (place : ℕ) → Underflows code place → UnderflowsFrom 0 code place
+underflows_from code place u =
+    record { before = u.before; after = u.after; i = u.i; stands = u.stands; operator = u.operator; shallow = u.shallow }
+
+pub underflows_to : (code : List Placed) (place : ℕ) → UnderflowsFrom 0 code place → Underflows code place
+underflows_to code place u =
+    record { before = u.before; after = u.after; i = u.i; stands = u.stands; operator = u.operator; shallow = u.shallow }
+
+pub returns_badly_from : (code : List Placed) (place : ℕ) → ReturnsBadly code place → ReturnsBadlyFrom 0 code place
+returns_badly_from code place u =
+    record { before = u.before; after = u.after; i = u.i; stands = u.stands; returns = u.returns; badly = u.badly }
+
+pub returns_badly_to : (code : List Placed) (place : ℕ) → ReturnsBadlyFrom 0 code place → ReturnsBadly code place
+returns_badly_to code place u =
+    record { before = u.before; after = u.after; i = u.i; stands = u.stands; returns = u.returns; badly = u.badly }
+
+pub Walks-from_balanced : (code : List Placed) (end : ℕ) → IsBalanced code end → Walks 0 code
+Walks-from_balanced code end b =
+    Walks-from 0 code (λ place u. (b place).0 (underflows_to code place u))
+    (λ place u. (b place).1 (inl (returns_badly_to code place u)))
+    (λ n. (b end).1 (inr (refl, n)))
+
+pub balanced_from_Walks : (code : List Placed) (end : ℕ) → Walks 0 code → IsBalanced code end
+balanced_from_Walks code end w place = (
+  λ u. Walks-no_underflow 0 code place w (underflows_from code place u),
+  λ r. elim r [
+    | inl u ↦ Walks-no_bad_return 0 code place w (returns_badly_from code place u)
+    | inr n ↦ Walks-returns 0 code w n.1
+  ],
+)

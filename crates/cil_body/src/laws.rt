@@ -1,0 +1,29 @@
+// What follows from the definitions of a lone body and of the table, for the crates above.
+
+ghost use Rattle.cil_body.specs.Opcode.{HasEach, HasNoOther};
+ghost use Rattle.cil_body.specs.Laws.{HasOneCode, HasNoFault, HasOneFault, CodeWalks, OperandsFit, CodeIsConsecutive, PlacesAreWithin};
+
+/// The table is that of the standard: it has the instructions with their numbers and operands, and nothing else.
+pub fn table_is_the_standards()
+    ensures each { HasEach }
+    ensures no_other { HasNoOther }
+{}
+
+/// A file is a lone body with one code, or has one fault, and never both.
+pub fn one_reading()
+    ensures one_code { HasOneCode }
+    ensures no_fault { HasNoFault }
+    ensures one_fault { HasOneFault }
+{}
+
+/// What is said of the stack by sets of places follows the code from front to back.
+pub fn balance_is_a_walk()
+    ensures { CodeWalks }
+{}
+
+/// The instructions of a lone body stand in its file one directly behind the other, with operands that are ints.
+pub fn code_fills_the_file()
+    ensures consecutive { CodeIsConsecutive }
+    ensures within { PlacesAreWithin }
+    ensures operands { OperandsFit }
+{}

@@ -1,0 +1,121 @@
+// A lone body.
+
+ghost use Rattle.std.specs.Prelude.{◌≡◌, ◌≤◌, ◌^◌, length, IfOk, IfErr, OnOk};
+ghost use Rattle.cil_body.specs.Cut.{IsConsecutive};
+ghost use Rattle.cil_body.specs.Lone.{IsWhole, IsCut, IsBalanced, IsLone, IsLoneFault, IsRefused, IsBreak, fault_of};
+ghost use Rattle.dc_base.specs.declared.failure.Or.TheVariants.{Fault};
+
+use crate::{BodyCause, BodyFault, Row, Simple, next};
+use dc_base::Or;
+use std::alloc::Global;
+
+/// Why a file is no lone body, and where, counted from the file's first byte. `NotYet` has the byte too.
+#[derive(Clone, Copy, Debug, PartialEq, Eq)]
+pub enum LoneFault {
+    BadHeader(u32),
+    Truncated(u32),
+    NotYet(u8, u32),
+    Underflow(u32),
+    BadReturn(u32),
+    Trailing(u32),
+}
+
+impl From<LoneFault> for Or<LoneFault> {
+    ghost from_gives = { λ fault or. or ≡ Fault fault };
+
+    fn from(fault: LoneFault) -> Self {
+        Or::Fault(fault)
+    }
+}
+
+/// The fault of a lone body whose cut stops.
+impl From<BodyFault> for Or<LoneFault> {
+    ghost from_gives = { λ fault or. or ≡ fault_of fault };
+
+    fn from(fault: BodyFault) -> Self {
+        match fault.cause {
+            BodyCause::NotYet(byte) => Or::Fault(LoneFault::NotYet(byte, fault.at)),
+            BodyCause::Truncated => Or::Fault(LoneFault::Truncated(fault.at)),
+        }
+    }
+}
+
+/// The instructions of a file that is one body with a tiny header, each with its place from the file's first byte.
+pub fn lone(alloc: Global, bytes: &[u8]) -> Result<Vec<(u32, Simple)>, Or<LoneFault>>
+    requires { length bytes.now ≤ 2 ^ 31 }
+    ensures read { IfOk result (λ code. IsLone bytes.now code.items) }
+    ensures fault { IfErr result (IsRefused bytes.now) }
+{
+    let size = header(bytes)?;
+    let code = cut(alloc, bytes, size)?;
+    let end = size + 1;
+    balance(code.as_slice(), end as u32)?;
+    if end < bytes.len() {
+        return Err(Or::Fault(LoneFault::Trailing(end as u32)));
+    }
+    Ok(code)
+}
+
+// How many bytes of code the header speaks of, all of which are there.
+fn header(bytes: &[u8]) -> Result<usize, LoneFault>
+    requires { length bytes.now ≤ 2 ^ 31 }
+    ensures whole { IfOk result (IsWhole bytes.now) }
+    ensures fault { IfErr result (IsLoneFault bytes.now) }
+{
+    let [first, ..] = bytes else {
+        return Err(LoneFault::BadHeader(0));
+    };
+    let size = usize::from(*first / 4);
+    if *first % 4 != 2 || size == 0 {
+        return Err(LoneFault::BadHeader(0));
+    }
+    if bytes.len() <= size {
+        return Err(LoneFault::Truncated(bytes.len() as u32));
+    }
+    Ok(size)
+}
+
+// The code, cut into its instructions.
+fn cut(alloc: Global, bytes: &[u8], size: usize) -> Result<Vec<(u32, Simple)>, Or<LoneFault>>
+    requires short { length bytes.now ≤ 2 ^ 31 }
+    requires whole { IsWhole bytes.now size }
+    ensures read { IfOk result (λ code. IsCut bytes.now size code.items) }
+    ensures fault { IfErr result (IsRefused bytes.now) }
+{
+    let body = &bytes[..size + 1];
+    let mut code = Vec::new(alloc);
+    let mut at = 1;
+    while at < body.len() {
+        let (found, after) = next(body, at)?;
+        code.push((at as u32, found))?;
+        at = after;
+    }
+    Ok(code)
+}
+
+// Walks over the code, and stops at the first place where it does wrong by the stack or the end.
+fn balance(code: &[(u32, Simple)], end: u32) -> Result<(), LoneFault>
+    requires { IsConsecutive 1 code.now end }
+    ensures balanced { OnOk result (IsBalanced code.now end) }
+    ensures fault { IfErr result (IsBreak code.now end) }
+{
+    let mut depth: usize = 0;
+    for (i, (place, instruction)) in code.iter().enumerate() {
+        match instruction.op.row() {
+            Row::Load(_) => depth += 1,
+            Row::Binary(_) => {
+                if depth < 2 {
+                    return Err(LoneFault::Underflow(*place));
+                }
+                depth -= 1;
+            }
+            Row::Return => {
+                if depth == 1 && i + 1 == code.len() {
+                    return Ok(());
+                }
+                return Err(LoneFault::BadReturn(*place));
+            }
+        }
+    }
+    Err(LoneFault::BadReturn(end))
+}
