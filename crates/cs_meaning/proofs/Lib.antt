@@ -1,0 +1,6 @@
+pub mod Equations
+pub mod Fuel
+pub mod Runs
+pub mod Lone
+pub mod Vars
+pub mod Flat
