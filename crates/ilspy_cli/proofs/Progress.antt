@@ -1,0 +1,42 @@
+-- How far a text is written.
+use Rattle.std.proofs.Common.{◌≡◌, ℕ, ◌≤◌, ◌<◌, ◌+◌, min, List, [], ◌++◌, length, take, drop, Option, Some, None, Ok, Err, option_map, refl, ap, ◌∙◌, sym, arith, append_assoc}
+use Rattle.std.proofs.lemmas.List.{take-append-drop, take-append-le, length-take, length-drop}
+use Rattle.std.proofs.Math.Seq.{take-add}
+use Rattle.dc_base.specs.Outside.{Puts, CountsPut, HasRisen}
+use Rattle.ilspy_cli.specs.Outcome.{Adds, IsWritten, IsCutShort}
+
+-- the first `done` bytes of the text are written, and the count of faults stands where it stood
+pub record Progress (old new : Option (List ℕ)) (before now : ℕ) (text : List ℕ) (done : ℕ) : Type 0 where
+  pub within : done ≤ length text
+  pub written : IsWritten old new before now (take done text)
+
+-- a front of a front is a front of the whole
+take-take : (n size : ℕ) (xs : List ℕ) → n ≤ length (take size xs) → take n (take size xs) ≡ take n xs
+take-take n size xs h = sym (take-append-le n (take size xs) (drop size xs) h) ∙ ap (take n) (take-append-drop size xs)
+
+-- two pieces added one after the other
+adds_both : (old mid new : Option (List ℕ)) (a b : List ℕ) → Adds old mid a → Adds mid new b → Adds old new (a ++ b)
+adds_both None mid new a b p q = q ∙ ap (option_map (λ bytes. bytes ++ b)) p
+adds_both (Some x) mid new a b p q = q ∙ ap (option_map (λ bytes. bytes ++ b)) p ∙ ap Some (append_assoc x a b)
+
+-- a put takes the text further
+pub further : (old mid new : Option (List ℕ)) (before at now : ℕ) (text : List ℕ) (done size n : ℕ) → Progress old mid before at text done → Puts (take size (drop done text)) mid new (Ok n) → CountsPut at now (Ok n) → Progress old new before now text (done + n)
+further old mid new before at now text done size n p put count =
+    let short : n ≤ length (drop done text) = omega (arith, put.1, length-take size (drop done text)) in
+    record {
+      within = omega (arith, p.within, length-drop done text);
+      written = record {
+        adds = rw (take-add done n text, ← take-take n size (drop done text) put.1) (adds_both old mid new (take done text) (take n (take size (drop done text))) p.written.adds put.2);
+        unfailed = count ∙ p.written.unfailed;
+      };
+    }
+
+-- a put that failed leaves a front of the text
+pub cut_short : (old mid new : Option (List ℕ)) (before at now : ℕ) (text : List ℕ) (done : ℕ) → Progress old mid before at text done → new ≡ mid → HasRisen at now → IsCutShort old new before now text
+cut_short old mid new before at now text done p put count = record {
+  front = take done text;
+  rest = drop done text;
+  whole = sym (take-append-drop done text);
+  adds = put ∙ p.written.adds;
+  risen = rw p.written.unfailed at count;
+}

@@ -1,0 +1,10 @@
+pub mod Tokens
+pub mod Tree
+pub mod Flat
+pub mod Layout
+pub mod Elaborate
+pub mod Theorem
+pub mod Words
+pub mod Lines
+pub mod Status
+pub mod Outcome

@@ -1,0 +1,22 @@
+// Writing a whole text to a sink.
+
+ghost use Rattle.std.specs.Prelude.{◌≡◌, OnOk, OnErr};
+ghost use Rattle.ilspy_cli.specs.Outcome.{IsWritten, IsCutShort};
+
+use dc_base::{Failed, Sink};
+
+/// The most bytes of a piece that is put at once.
+const PIECE: usize = 4096;
+
+/// Puts the text in pieces, and again what a put didn't take.
+pub(crate) fn put_all<K: Sink>(out: &mut K, text: &[u8]) -> Result<(), Failed>
+    ensures ok { OnOk result (IsWritten (K.written out.old) (K.written out.new) (K.faults out.old) (K.faults out.new) text.now) }
+    ensures failed { OnErr result (IsCutShort (K.written out.old) (K.written out.new) (K.faults out.old) (K.faults out.new) text.now) }
+{
+    let mut done = 0;
+    while done < text.len() {
+        let end = text.len().min(done.saturating_add(PIECE));
+        done += out.put(&text[done..end])?;
+    }
+    Ok(())
+}
