@@ -1,6 +1,6 @@
 // A lone body.
 
-ghost use Rattle.std.specs.Prelude.{◌≡◌, ◌≤◌, ◌^◌, length, IfOk, IfErr, OnOk};
+ghost use Rattle.std.specs.Prelude.{◌≡◌, ◌<◌, ◌≤◌, ◌^◌, length, IfOk, IfErr, OnOk};
 ghost use Rattle.cil_body.specs.Cut.{IsConsecutive};
 ghost use Rattle.cil_body.specs.Lone.{IsWhole, IsCut, IsBalanced, IsLone, IsLoneFault, IsRefused, IsBreak, fault_of};
 ghost use Rattle.dc_base.specs.declared.failure.Or.TheVariants.{Fault};
@@ -20,6 +20,7 @@ pub enum LoneFault {
     Trailing(u32),
 }
 
+/// A fault of a lone body, where memory might have been wanted.
 impl From<LoneFault> for Or<LoneFault> {
     ghost from_gives = { λ fault or. or ≡ Fault fault };
 
@@ -50,9 +51,7 @@ pub fn lone(alloc: Global, bytes: &[u8]) -> Result<Vec<(u32, Simple)>, Or<LoneFa
     let code = cut(alloc, bytes, size)?;
     let end = size + 1;
     balance(code.as_slice(), end as u32)?;
-    if end < bytes.len() {
-        return Err(Or::Fault(LoneFault::Trailing(end as u32)));
-    }
+    trailing(bytes, end)?;
     Ok(code)
 }
 
@@ -118,4 +117,16 @@ fn balance(code: &[(u32, Simple)], end: u32) -> Result<(), LoneFault>
         }
     }
     Err(LoneFault::BadReturn(end))
+}
+
+// Nothing may stand behind the code.
+fn trailing(bytes: &[u8], end: usize) -> Result<(), LoneFault>
+    requires { length bytes.now ≤ 2 ^ 31 }
+    ensures ended { OnOk result (length bytes.now ≤ end) }
+    ensures fault { IfErr result (λ fault. (fault ≡ LoneFault.Trailing end) × (end < length bytes.now)) }
+{
+    if end < bytes.len() {
+        return Err(LoneFault::Trailing(end as u32));
+    }
+    Ok(())
 }
