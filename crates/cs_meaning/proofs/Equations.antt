@@ -1,10 +1,9 @@
 -- The meaning of each form of tree, from the meanings of its parts.
-use Rattle.std.proofs.Common.{◌≡◌, ℕ, ◌<◌, Bool, true, false, List, [], ◌∷◌, Option, Some, None, map, ℤ, refl, sym, ap, ◌∙◌, rules}
+use Rattle.std.proofs.Common.{◌≡◌, ℕ, false, Some, None, sym, ap, ◌∙◌}
 use Rattle.cs_meaning.specs.declared.tree.Literal.{Literal}
 use Rattle.cs_meaning.specs.declared.tree.BinaryOp.{BinaryOp}
 use Rattle.cs_meaning.specs.declared.tree.Expr.{Expr}
 use Rattle.cs_meaning.specs.declared.tree.Expr.TheVariants as expr
-use Rattle.cs_meaning.specs.declared.tree.Stmt.{Stmt}
 use Rattle.cs_meaning.specs.declared.tree.Stmt.TheVariants as stmt
 use Rattle.cs_meaning.specs.declared.tree.Expr.TheOpen.{Expr-F, Stmt-F}
 use Rattle.cs_meaning.specs.declared.tree.Expr.TheFolds.{fold-roll-Expr, fold-roll-Stmt}

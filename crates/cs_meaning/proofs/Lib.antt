@@ -4,3 +4,4 @@ pub mod Runs
 pub mod Lone
 pub mod Vars
 pub mod Flat
+pub mod Blocks

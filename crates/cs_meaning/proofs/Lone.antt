@@ -1,5 +1,5 @@
 -- A typed and definitely assigned lone body returns an int.
-use Rattle.std.proofs.Common.{◌≡◌, ℕ, zero, suc, ◌+◌, ◌<◌, ◌≤◌, Bool, true, false, List, [], ◌∷◌, length, Option, Some, None, Ok, map, slice_index_or, ℤ, ◌+ℤ◌, ◌-ℤ◌, ◌*ℤ◌, refl, sym, ap, ◌∙◌, subst, arith, rules, slice_get, slice_set, All, Contains, inl, inr, ◌⊎◌, ⊎_elim, ◌≢◌, eqb}
+use Rattle.std.proofs.Common.{◌≡◌, ℕ, zero, suc, ◌+◌, ◌<◌, ◌≤◌, true, false, List, [], ◌∷◌, length, Option, Some, None, Ok, slice_index_or, ℤ, ◌+ℤ◌, ◌-ℤ◌, ◌*ℤ◌, refl, ap, ◌∙◌, subst, arith, slice_get, slice_set, All, Contains, ⊎_elim, ◌≢◌, eqb}
 use Rattle.std.specs.Int.{int_wrap}
 use mir.Syntax.{w32}
 use Rattle.cs_meaning.specs.declared.body.Body.{Body}
@@ -10,25 +10,24 @@ use Rattle.cs_meaning.specs.declared.state.State.{State}
 use Rattle.cs_meaning.specs.declared.state.Value.{Value}
 use Rattle.cs_meaning.specs.declared.state.Value.TheVariants.{Int}
 use Rattle.cs_meaning.specs.declared.tree.BinaryOp.{BinaryOp}
-use Rattle.cs_meaning.specs.declared.tree.BinaryOp.TheVariants.{Add, Sub, Mul}
 use Rattle.cs_meaning.specs.declared.tree.Expr.{Expr}
 use Rattle.cs_meaning.specs.declared.tree.Expr.TheVariants as expr
 use Rattle.cs_meaning.specs.declared.tree.Expr.TheBlock.{hidden-the_row-Expr-0}
 use denote.Hole.Carrier.{hidden}
-use Rattle.cs_meaning.specs.declared.tree.Stmt.TheVariants as stmt
 use Rattle.cs_meaning.specs.declared.tree.Stmt.{Stmt}
-use Rattle.cs_meaning.specs.Ran.{Ran, spent, done, assigned, runs}
+use Rattle.cs_meaning.specs.Ran.{assigned, end_of}
 use Rattle.cs_meaning.specs.Run.{EndsAs, returned_int}
 use Rattle.cs_meaning.specs.declared.state.End.{End}
 use Rattle.cs_meaning.specs.declared.state.End.TheVariants.{Returns}
-use Rattle.cs_meaning.specs.Meaning.{args_left, first_value, first_values, initial, stmt_meaning, CsReturns}
+use Rattle.cs_meaning.specs.Meaning.{args_left, first_values, initial, block_meaning, CsReturns}
 use Rattle.cs_meaning.specs.Typed as typed
 use Rattle.cs_meaning.specs.Assigned as reads
 use Rattle.std.proofs.lemmas.List.{length-set}
 use Rattle.std.proofs.lemmas.List.Elements.{All-head, All-tail}
 use Rattle.std.proofs.lemmas.Bool.Decides.{eqb_tells}
 use Rattle.cs_meaning.proofs.Vars.{slice_get-set_same, slice_get-set_other, Contains-cons_cases}
-use Rattle.cs_meaning.proofs.Runs.{Gives, Gives-literal, Gives-var, Gives-add, Gives-sub, Gives-mul, RunsTo, RunsTo-decl, RunsTo-return, CsReturns-from}
+use Rattle.cs_meaning.proofs.Runs.{Gives, Gives-literal, Gives-var, Gives-add, Gives-sub, Gives-mul, RunsTo, RunsTo-decl, RunsTo-return, CsReturns-from, block_done}
+use Rattle.cs_meaning.proofs.Fuel.{block_meaning_keeps, with_more}
 
 -- each of these variables has an int
 pub record Covers (vars : List ℕ) (σ : State) : Type 0 where
@@ -138,24 +137,34 @@ lone_returns body args four is assigned_all =
     stmts_return (length body.vars) (reads.params_from 0 body.vars) body.stmts (initial body args) is.stmts assigned_all
     (Covers-initial body.vars args four is.vars) (length-first_values body.vars args)
 
+-- and with any more
+pub lone_returns_with : (body : Body) (args : List ℤ) → length args ≡ 4 → typed.IsLoneTyped body → reads.IsDefinitelyAssigned body → (fuel : ℕ) → length body.stmts ≤ fuel →
+    (y : ℤ) × (end_of (block_meaning body.stmts fuel (initial body args)) ≡ Some (Returns (Some (Int y))))
+lone_returns_with body args four is assigned_all fuel enough =
+    let run = lone_returns body args four is assigned_all in (
+      run.0,
+      with_more (block_meaning body.stmts) (block_meaning_keeps body.stmts) (length body.stmts) fuel enough (initial body args) (Returns (Some (Int run.0))) run.1.state run.1.left
+          (block_done body.stmts (initial body args) (length body.stmts) run.0 run.1),
+    )
+
 -- so what such a run ends in is that `return`
 pub ends_so : (stmts : List Stmt) (σ : State) (fuel : ℕ) (y : ℤ) → RunsTo stmts σ fuel y → (o : Option End) (τ : State) (n : ℕ) →
-    EndsAs (runs (map stmt_meaning stmts) fuel σ) (Ok o) τ n → o ≡ Some (Returns (Some (Int y)))
-ends_so stmts σ fuel y run None τ n is = let ran = run.ran in cc
-ends_so stmts σ fuel y run (Some e) τ n is = let ran = run.ran in cc
+    EndsAs (block_meaning stmts fuel σ) (Ok o) τ n → o ≡ Some (Returns (Some (Int y)))
+ends_so stmts σ fuel y run None τ n is = let ran = block_done stmts σ fuel y run in cc
+ends_so stmts σ fuel y run (Some e) τ n is = let ran = block_done stmts σ fuel y run in cc
 
 rewritten : (o : Option End) (τ : State) (n : ℕ) (s s' : List Stmt) (f f' : ℕ) (v v' : List (Option Value)) → s ≡ s' → f ≡ f' → v ≡ v' →
-    EndsAs (runs (map stmt_meaning s) f (record { vars = v })) (Ok o) τ n → EndsAs (runs (map stmt_meaning s') f' (record { vars = v' })) (Ok o) τ n
+    EndsAs (block_meaning s f (record { vars = v })) (Ok o) τ n → EndsAs (block_meaning s' f' (record { vars = v' })) (Ok o) τ n
 rewritten o τ n s s' f f' v v' a b c h = subst (λ r. EndsAs r (Ok o) τ n) same h where
-  same : runs (map stmt_meaning s) f (record { vars = v }) ≡ runs (map stmt_meaning s') f' (record { vars = v' })
+  same : block_meaning s f (record { vars = v }) ≡ block_meaning s' f' (record { vars = v' })
   same = cc
 
 -- what a lone body's run of this code hands out is an int that the body returns
 pub lone_result : (body : Body) (args : List ℤ) → length args ≡ 4 → typed.IsLoneTyped body → reads.IsDefinitelyAssigned body →
     (stmts : List Stmt) (fuel : ℕ) (vars : List (Option Value)) → stmts ≡ body.stmts → fuel ≡ length body.stmts → vars ≡ first_values body.vars args →
-    (o : Option End) (τ : State) (n : ℕ) → EndsAs (runs (map stmt_meaning stmts) fuel (record { vars = vars })) (Ok o) τ n →
+    (o : Option End) (τ : State) (n : ℕ) → EndsAs (block_meaning stmts fuel (record { vars = vars })) (Ok o) τ n →
     (y : ℤ) × (returned_int o ≡ Some y) × CsReturns body args y
 lone_result body args four is assigned_all stmts fuel vars same_stmts same_fuel same_vars o τ n ended =
     let run = lone_returns body args four is assigned_all in
-    let at_body : EndsAs (runs (map stmt_meaning body.stmts) (length body.stmts) (initial body args)) (Ok o) τ n = rewritten o τ n stmts body.stmts fuel (length body.stmts) vars (first_values body.vars args) same_stmts same_fuel same_vars ended in
+    let at_body : EndsAs (block_meaning body.stmts (length body.stmts) (initial body args)) (Ok o) τ n = rewritten o τ n stmts body.stmts fuel (length body.stmts) vars (first_values body.vars args) same_stmts same_fuel same_vars ended in
     (run.0, ap returned_int (ends_so body.stmts (initial body args) (length body.stmts) run.0 run.1 o τ n at_body), CsReturns-from body args (length body.stmts) run.0 run.1)

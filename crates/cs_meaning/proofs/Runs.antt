@@ -1,5 +1,5 @@
 -- Running a list of declarations and a `return`, one statement at a time.
-use Rattle.std.proofs.Common.{◌≡◌, ℕ, zero, suc, ◌+◌, ◌<◌, ◌≤◌, Bool, true, false, cond, ltb, List, [], ◌∷◌, length, Option, Some, None, map, ℤ, refl, sym, ap, ◌∙◌, subst, arith, rules, tests, slice_get}
+use Rattle.std.proofs.Common.{◌≡◌, ℕ, zero, suc, ◌<◌, false, List, ◌∷◌, length, Option, Some, map, ℤ, refl, ap, ◌∙◌, slice_get}
 use Rattle.std.proofs.Common.{◌+ℤ◌, ◌-ℤ◌, ◌*ℤ◌}
 use Rattle.std.specs.Int.{int_wrap}
 use mir.Syntax.{w32}
@@ -8,8 +8,7 @@ use Rattle.cs_meaning.specs.declared.body.Body.{Body}
 use Rattle.cs_meaning.specs.declared.state.State.{State}
 use Rattle.cs_meaning.specs.declared.state.Value.{Value}
 use Rattle.cs_meaning.specs.declared.state.Value.TheVariants.{Int}
-use Rattle.cs_meaning.specs.declared.state.End.{End}
-use Rattle.cs_meaning.specs.declared.state.End.TheVariants.{Falls, Breaks, Continues, Goes, Returns, Throws, Asks, Wrong}
+use Rattle.cs_meaning.specs.declared.state.End.TheVariants.{Returns}
 use Rattle.cs_meaning.specs.declared.tree.Literal.TheVariants as literal
 use Rattle.cs_meaning.specs.declared.tree.BinaryOp.{BinaryOp}
 use Rattle.cs_meaning.specs.declared.tree.BinaryOp.TheVariants.{Add, Sub, Mul}
@@ -17,8 +16,8 @@ use Rattle.cs_meaning.specs.declared.tree.Expr.{Expr}
 use Rattle.cs_meaning.specs.declared.tree.Expr.TheVariants as expr
 use Rattle.cs_meaning.specs.declared.tree.Stmt.{Stmt}
 use Rattle.cs_meaning.specs.declared.tree.Stmt.TheVariants as stmt
-use Rattle.cs_meaning.specs.Ran.{Valued, gives, stops, Ran, spent, done, Meaning, end_of, on_value, with_value, valued, value_in, read, store, assigned, begun, Part, after, runs, entry, jump, again, block}
-use Rattle.cs_meaning.specs.Meaning.{Node, int_result, binary, expr_meaning, stmt_meaning, block_meaning, initial, CsReturns}
+use Rattle.cs_meaning.specs.Ran.{gives, done, Meaning, end_of, valued, value_in, assigned, Part, after, runs, entry, again}
+use Rattle.cs_meaning.specs.Meaning.{Node, int_result, expr_meaning, stmt_meaning, block_meaning, initial, CsReturns}
 use Rattle.cs_meaning.proofs.Equations.{expr_literal, expr_var, expr_binary, stmt_decl, stmt_return}
 use Rattle.cs_meaning.proofs.Fuel.{block_meaning_keeps, one_end}
 
@@ -74,9 +73,13 @@ again-returns zero at v σ k = refl
 again-returns (suc n) at v σ k = refl
 
 -- a block that returns has no more to do
+pub block_done : (stmts : List Stmt) (σ : State) (fuel : ℕ) (v : ℤ) (run : RunsTo stmts σ fuel v) →
+    block_meaning stmts fuel σ ≡ done (Returns (Some (Int v))) run.state run.left
+block_done stmts σ fuel v run =
+    ap (again fuel (entry (map stmt_meaning stmts))) run.ran ∙ again-returns fuel (entry (map stmt_meaning stmts)) (Some (Int v)) run.state run.left
+
 pub block_returns : (stmts : List Stmt) (σ : State) (fuel : ℕ) (v : ℤ) → RunsTo stmts σ fuel v → end_of (block_meaning stmts fuel σ) ≡ Some (Returns (Some (Int v)))
-block_returns stmts σ fuel v run =
-    ap (λ r. end_of (again fuel (entry (map stmt_meaning stmts)) r)) run.ran ∙ ap end_of (again-returns fuel (entry (map stmt_meaning stmts)) (Some (Int v)) run.state run.left)
+block_returns stmts σ fuel v run = ap end_of (block_done stmts σ fuel v run)
 
 pub CsReturns-from : (body : Body) (args : List ℤ) (fuel : ℕ) (v : ℤ) → RunsTo body.stmts (initial body args) fuel v → CsReturns body args v
 CsReturns-from body args fuel v run = (fuel, block_returns body.stmts (initial body args) fuel v run)

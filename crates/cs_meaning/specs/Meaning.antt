@@ -22,7 +22,7 @@ use Rattle.cs_meaning.specs.declared.state.Value.{Value}
 use Rattle.cs_meaning.specs.declared.state.Value.TheVariants.{Int}
 use Rattle.cs_meaning.specs.declared.state.State.{State}
 use Rattle.cs_meaning.specs.declared.state.End.TheVariants.{Returns, Wrong}
-use Rattle.cs_meaning.specs.Ran.{Valued, gives, stops, done, Meaning, end_of, on_value, with_value, valued, read, store, begun, wrong, Part, block}
+use Rattle.cs_meaning.specs.Ran.{Valued, stops, done, Meaning, end_of, on_value, with_value, valued, read, store, begun, wrong, Part, block}
 
 -- an expression: its value, and the number of the variable where it is one, which can be set
 pub record Node : Type 0 where
@@ -39,7 +39,7 @@ pub record Branch : Type 0 where
   pub cases : List Case
   pub parts : List Part
 
--- the unchecked operators on ints, which keep the low 32 bits of the result (ECMA-334, 12.8.20, 12.10 and 12.12)
+-- the unchecked operators on ints, which keep the low 32 bits of the result (ECMA-334, 12.8.20 and 12.10)
 abbrev pub int_result : BinaryOp → ℤ → ℤ → Option Value
 int_result Add x y = Some (Int (int_wrap w32 (x +ℤ y)))
 int_result Sub x y = Some (Int (int_wrap w32 (x -ℤ y)))

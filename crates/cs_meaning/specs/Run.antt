@@ -4,7 +4,7 @@ use Rattle.dc_base.specs.declared.failure.NoMemory.{NoMemory}
 use Rattle.cs_meaning.specs.declared.state.Value.{Value}
 use Rattle.cs_meaning.specs.declared.state.State.{State}
 use Rattle.cs_meaning.specs.declared.state.End.{End}
-use Rattle.cs_meaning.specs.declared.state.End.TheVariants.{Falls, Breaks, Continues, Goes, Returns, Throws, Asks, Wrong}
+use Rattle.cs_meaning.specs.declared.state.End.TheVariants.{Returns}
 use Rattle.cs_meaning.specs.declared.state.Value.TheVariants.{Int}
 use Rattle.cs_meaning.specs.Ran.{Valued, gives, stops, Ran, spent, done}
 

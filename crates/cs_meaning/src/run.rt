@@ -2,7 +2,7 @@
 
 ghost use Rattle.std.specs.Prelude.{◌≡◌, ℕ, IfOk, map};
 ghost use Rattle.cs_meaning.specs.Assigned.{IsDefinitelyAssigned};
-ghost use Rattle.cs_meaning.specs.Meaning.{CsReturns, args_left, computed, expr_meaning, first_value, first_values, int_result, literal_value, stmt_meaning};
+ghost use Rattle.cs_meaning.specs.Meaning.{CsReturns, args_left, block_meaning, computed, expr_meaning, first_value, first_values, int_result, literal_value, stmt_meaning};
 ghost use Rattle.cs_meaning.specs.Ran.{done, runs, store, variable};
 ghost use Rattle.cs_meaning.specs.Run.{ComesTo, EndsAs, returned_int};
 ghost use Rattle.cs_meaning.specs.Typed.{IsLoneTyped};
@@ -23,8 +23,15 @@ pub fn lone_exec(alloc: Global, body: &Body, args: [i32; 4]) -> Result<i32, NoMe
     let vars = first_values(alloc, body.vars.items(), &args)?;
     let mut state = State { vars };
     let mut fuel = body.stmts.len() as u64;
-    let ended = run_all(body.stmts.as_slice(), &mut state, &mut fuel)?;
+    let ended = exec(body.stmts.as_slice(), &mut state, &mut fuel)?;
     Ok(returned_int(ended).unwrap())
+}
+
+// A block. None: the fuel was too little.
+fn exec(stmts: &[Stmt], state: &mut State, fuel: &mut u64) -> Result<Option<End>, NoMemory>
+    ensures { EndsAs (block_meaning stmts.now fuel.old state.old) result state.new fuel.new }
+{
+    run_all(stmts, state, fuel)
 }
 
 fn returned_int(ended: Option<End>) -> Option<i32>

@@ -8,3 +8,4 @@ pub mod Words
 pub mod Lines
 pub mod Status
 pub mod Outcome
+pub mod Outside

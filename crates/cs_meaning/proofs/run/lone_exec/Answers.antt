@@ -1,4 +1,4 @@
-use Rattle.std.proofs.Common.{◌≡◌, ℕ, ℤ, length, Some, IsSome, Option, sym, ◌∙◌, ap, subst, rules, arith}
+use Rattle.std.proofs.Common.{◌≡◌, ℤ, length, Some, IsSome, sym, ◌∙◌, subst, rules}
 use Rattle.std.proofs.lemmas.Int.{to_z-of_z}
 use mir.Syntax.{w32}
 use mir.Val.{SFits}
@@ -15,7 +15,7 @@ found c =
     let vars : c.in_ok-vars.vars ≡ first_values c.args.body.now.vars c.args.args = search rules in
     lone_result c.args.body.now c.args.args four c.requires.typed c.requires.assigned
     c.as_slice.result.now c.len.result c.in_ok-vars.vars (search rules) (search rules) vars
-    c.in_ok-ended.ended c.run_all.new.state c.run_all.new.fuel c.in_ok-ended.ensures
+    c.in_ok-ended.ended c.exec.new.state c.exec.new.fuel c.in_ok-ended.ensures
 
 pub unwrap-requires : goal.unwrap-requires
 unwrap-requires c = subst IsSome (sym (c.returned_int.ensures ∙ (found c).1)) (search rules)
