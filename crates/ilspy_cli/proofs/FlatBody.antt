@@ -1,11 +1,12 @@
 -- A body of flat statements is typed, and assigns each variable before it is read.
-use Rattle.std.proofs.Common.{◌≡◌, ℕ, zero, suc, ◌+◌, ◌<◌, ◌≤◌, List, [], ◌∷◌, length, replicate, Contains, Option, Some, None, false, refl, sym, ap, ◌∙◌, arith, rules, ⊎_elim}
+use Rattle.std.proofs.Common.{◌≡◌, ◌≢◌, ℕ, zero, suc, ◌+◌, ◌<◌, ◌≤◌, List, [], ◌∷◌, length, replicate, Contains, Option, Some, None, false, refl, sym, ap, ◌∙◌, arith, rules, ⊎_elim}
 use Rattle.std.proofs.lemmas.Bool.{cases_lt}
 use Rattle.std.proofs.lemmas.List.{length-replicate}
 use Rattle.std.proofs.lemmas.List.Elements.{All-from_recursion, Contains-append_right}
 use Rattle.cil_body.specs.Opcode.{row_of}
 use Rattle.cil_body.specs.Cut.{Placed}
-use Rattle.cs_meaning.specs.declared.body.Role.TheVariants.{Param, Local}
+use Rattle.cs_meaning.specs.declared.body.Role.{Role}
+use Rattle.cs_meaning.specs.declared.body.Role.TheVariants.{Param}
 use Rattle.cs_meaning.specs.declared.tree.Literal.TheVariants.{Int}
 use Rattle.cs_meaning.specs.declared.tree.Expr.{Expr}
 use Rattle.cs_meaning.specs.declared.tree.Expr.TheVariants as expr
@@ -61,31 +62,31 @@ flat_stmts vars next stmts (more n value rest form flat) four bound =
     (flat_stmts vars (n + 1) rest flat (omega arith) (omega arith))
 
 -- locals are no parameters
-are_locals : (n : ℕ) → AllByRecursion IsIntLocal (replicate n (int_var Local))
-are_locals zero = tt
-are_locals (suc n) = (record { int = refl; local = λ h. cc }, are_locals n)
+are_locals : (role : Role) → role ≢ Param → (n : ℕ) → AllByRecursion IsIntLocal (replicate n (int_var role))
+are_locals role apart zero = tt
+are_locals role apart (suc n) = (record { int = refl; local = apart }, are_locals role apart n)
 
 -- a parameter is an int
 is_param : IsIntParam (int_var Param)
 is_param = record { int = refl; param = refl }
 
 -- the variables of a lone body are four parameters and locals
-lone_vars_are : (n : ℕ) → AreLoneVars (lone_vars Local n)
-lone_vars_are n = (is_param, is_param, is_param, is_param, All-from_recursion IsIntLocal (replicate n (int_var Local)) (are_locals n))
+lone_vars_are : (role : Role) → role ≢ Param → (n : ℕ) → AreLoneVars (lone_vars role n)
+lone_vars_are role apart n = (is_param, is_param, is_param, is_param, All-from_recursion IsIntLocal (replicate n (int_var role)) (are_locals role apart n))
 
 -- how many there are
-pub length-lone_vars : (n : ℕ) → length (lone_vars Local n) ≡ 4 + n
-length-lone_vars n = let e : length (replicate n (int_var Local)) ≡ n = search (rules, length-replicate) in omega arith
+pub length-lone_vars : (role : Role) (n : ℕ) → length (lone_vars role n) ≡ 4 + n
+length-lone_vars role n = let e : length (replicate n (int_var role)) ≡ n = search (rules, length-replicate) in omega arith
 
 -- a body of flat statements is typed
-pub flat_typed : (stmts : List Stmt) → AreFlat 4 stmts → IsLoneTyped (lone_body Local stmts)
-flat_typed stmts flat = record {
+pub flat_typed : (role : Role) → role ≢ Param → (stmts : List Stmt) → AreFlat 4 stmts → IsLoneTyped (lone_body role stmts)
+flat_typed role apart stmts flat = record {
   result_int = refl;
   static_method = refl;
-  vars = lone_vars_are (declarations stmts);
+  vars = lone_vars_are role apart (declarations stmts);
   stmts =
-      let e = length-lone_vars (declarations stmts) in
-      flat_stmts (length (lone_vars Local (declarations stmts))) 4 stmts flat (omega arith) (omega arith);
+      let e = length-lone_vars role (declarations stmts) in
+      flat_stmts (length (lone_vars role (declarations stmts))) 4 stmts flat (omega arith) (omega arith);
 }
 
 -- each variable before the next one is assigned
@@ -125,7 +126,7 @@ params_assigned rest (suc (suc (suc zero))) lt = (3, omega arith, refl)
 params_assigned rest (suc (suc (suc (suc v)))) lt = absurd (omega arith)
 
 -- a body of flat statements assigns each variable before it reads it
-pub flat_assigned : (stmts : List Stmt) → AreFlat 4 stmts → IsDefinitelyAssigned (lone_body Local stmts)
-flat_assigned stmts flat =
-    let rest = params_from 4 (replicate (declarations stmts) (int_var Local)) in
+pub flat_assigned : (role : Role) (stmts : List Stmt) → AreFlat 4 stmts → IsDefinitelyAssigned (lone_body role stmts)
+flat_assigned role stmts flat =
+    let rest = params_from 4 (replicate (declarations stmts) (int_var role)) in
     flat_runs (0 ∷ 1 ∷ 2 ∷ 3 ∷ rest) 4 stmts flat (params_assigned rest)

@@ -1,13 +1,12 @@
 -- The text reads as one tree, whose body is that of the flat form; and the flat form returns what the code returns.
-use Rattle.std.proofs.Common.{ℕ, ◌≤◌, ◌<◌, ◌^◌, List, [], length, arith}
-use Rattle.cil_body.proofs.Above.{IsLone-walks, IsLone-operand}
+use Rattle.std.proofs.Common.{◌≡◌, ℕ, ◌≤◌, ◌<◌, ◌^◌, List, [], length, arith}
 use Rattle.cil_body.proofs.Reading.{IsLone-consecutive}
 use Rattle.cs_meaning.specs.declared.body.Role.TheVariants.{Local, SlotVar}
 use Rattle.ilspy_cli.specs.Flat.{flat_from, lone_body, flat_of}
 use Rattle.ilspy_cli.specs.Layout.{text_of}
 use Rattle.ilspy_cli.proofs.CilRuns.{consecutive_length}
 use Rattle.ilspy_cli.proofs.FlatLength.{flat_within}
-use Rattle.ilspy_cli.proofs.Returns.{FlatMeansTheSame, flat_means_the_same}
+use Rattle.ilspy_cli.proofs.Returns.{FlatMeansTheSame, flat_runs_as}
 use Rattle.ilspy_cli.proofs.TextReads.{TextReads, flat_text_reads}
 use Rattle.ilspy_cli.proofs.TokensUnique.{one_tokens}
 use Rattle.ilspy_cli.proofs.TreeUnique.{one_tree_of}
@@ -19,7 +18,7 @@ pub text_means_the_same_lem : (file : List ℕ) (code : List Placed) → length 
 text_means_the_same_lem file code short lone =
     let stmts = flat_from 4 [] code in
     let end : length file < 2 ^ 32 = omega arith in
-    let flat = flat_means_the_same code (length file) (IsLone-walks file code lone) (IsLone-consecutive file code lone) end (IsLone-operand file code lone) in
+    let flat = flat_runs_as Local (λ e. cc) file code end lone in
     let fits : length stmts ≤ 2 ^ 32 = omega (arith, flat_within code 4 [], consecutive_length 1 code (length file) (IsLone-consecutive file code lone)) in
     let reads = flat_text_reads SlotVar stmts flat.flat fits in
     record {
@@ -31,7 +30,5 @@ text_means_the_same_lem file code short lone =
       parsed = record { is = reads.is; only = λ other h. one_tree_of reads.tokens other reads.tree h reads.is };
       body = lone_body Local stmts;
       elaborated = reads.elaborated;
-      typed = flat.typed;
-      assigned = flat.assigned;
-      returns = flat.returns;
+      runs = flat.runs;
     }

@@ -22,6 +22,12 @@ pub record ReturnsTheSame (code : List Placed) (body : Body) : Type 0 where
   pub both : (args : List ℤ) → AreArguments args → (v : ℤ) × CilReturns code args v × CsReturns body args v
   pub same : (args : List ℤ) (v : ℤ) → AreArguments args → CilReturns code args v ↔ CsReturns body args v
 
+-- the body is typed and definitely assigned, and returns what the code returns
+pub record RunsAsTheCode (code : List Placed) (body : Body) : Type 0 where
+  pub typed : IsLoneTyped body
+  pub assigned : IsDefinitelyAssigned body
+  pub returns : ReturnsTheSame code body
+
 -- the text is one list of tokens, and no other
 pub record HasOneTokenList (text : List ℕ) (tokens : List Token) : Type 0 where
   pub are : AreTokens text tokens
@@ -42,6 +48,4 @@ pub record LoneBodyMeansTheSame (file text : List ℕ) : Type 0 where
   pub parsed : HasOneTree tokens tree
   pub body : Body
   pub elaborated : body_of tree ≡ Some body
-  pub typed : IsLoneTyped body
-  pub assigned : IsDefinitelyAssigned body
-  pub returns : ReturnsTheSame code body
+  pub runs : RunsAsTheCode code body

@@ -1,10 +1,12 @@
 // The flat form of a lone body.
 
-ghost use Rattle.std.specs.Prelude.{◌≡◌, ◌+◌, ◌<◌, ◌^◌, ◌++◌, pos, length, All, IfOk, OnOk, replicate};
+ghost use Rattle.std.specs.Prelude.{◌≡◌, ℕ, List, ◌+◌, ◌<◌, ◌^◌, ◌++◌, pos, length, All, IfOk, OnOk, replicate};
 ghost use Rattle.std.specs.Int.{w32};
 ghost use Rattle.std.specs.Int.RustNames.{FitsSigned};
 ghost use Rattle.cil_body.specs.Opcode.{row_of};
+ghost use Rattle.cil_body.specs.Lone.{IsLone};
 ghost use Rattle.cs_meaning.specs.declared.body.Role.TheVariants.{SlotVar};
+ghost use Rattle.ilspy_cli.specs.Theorem.{RunsAsTheCode};
 ghost use Rattle.ilspy_cli.specs.Flat.{flat_of, Pushes, loaded_form, returned, sign_of, int_var, lone_vars, lone_body, declarations};
 
 use cil_body::{Row, Simple, Source, Two};
@@ -25,6 +27,17 @@ const PARAMS: u32 = 4;
 
 /// The flat form of a lone body's code: each push makes a variable of its own.
 pub fn flat(alloc: Global, code: &[(u32, Simple)]) -> Result<Body, NoMemory>
+    requires short { length code.now < 2 ^ 31 }
+    requires operands { All (λ e. FitsSigned w32 e.1.arg) code.now }
+    ensures flat { IfOk result (λ body. body ≡ flat_of code.now) }
+
+    // The flat form of a lone body's code is one that can be run, and returns what the code returns.
+    ensures same { (file : List ℕ) → length file < 2 ^ 32 → IsLone file code.now → IfOk result (RunsAsTheCode code.now) }
+{
+    flattened(alloc, code)
+}
+
+fn flattened(alloc: Global, code: &[(u32, Simple)]) -> Result<Body, NoMemory>
     requires short { length code.now < 2 ^ 31 }
     requires operands { All (λ e. FitsSigned w32 e.1.arg) code.now }
     ensures { IfOk result (λ body. body ≡ flat_of code.now) }

@@ -21,3 +21,4 @@ pub use out_sink::OutSink;
 pub use program::run;
 pub use reading::one_tree;
 pub use status::Status;
+pub use words::process_words;

@@ -1,13 +1,12 @@
--- A push declares one more variable; where nothing is pushed the code returns.
-use Rattle.std.proofs.Common.{◌≡◌, ◌++◌, ◌∷◌, arith, subst, sym}
-use Rattle.ilspy_cli.specs.Flat.{returned, Pushes}
-use Rattle.ilspy_cli.proofs.FlatCode.{declares_more, returns_all, counted_still}
+-- The flat form of a lone body's code runs as the code.
+use Rattle.std.proofs.Common.{◌≡◌, subst, sym}
+use Rattle.std.proofs.lemmas.Result.{IfOk-weaker}
+use Rattle.cs_meaning.specs.declared.body.Role.TheVariants.{SlotVar}
+use Rattle.ilspy_cli.specs.Theorem.{RunsAsTheCode}
+use Rattle.ilspy_cli.proofs.Returns.{flat_runs_as}
 use Rattle.ilspy_cli.proofs.flat_form.flat.Goals as goal
 
-pub finished-requires : goal.finished-requires
-finished-requires c = counted_still _ _ _ _ c.in_ok-returned.ensures c.loop-simple.invariant.counted
-
-pub loop-simple-preserved : goal.loop-simple-preserved
-loop-simple-preserved c =
-    rw (c.in_ok-push.ensures.ok, c.in_ok-push-2.ensures.ok)
-    (declares_more _ _ _ _ _ _ _ c.in-Some.value c.loop-simple.invariant c.loop-simple-test.true (rw c.in-Some.is at c.in_ok-value.ensures))
+pub returns-clause-same : goal.returns-clause-same
+returns-clause-same c = λ file short lone.
+    IfOk-weaker _ _ (RunsAsTheCode c.args.code.now)
+    (λ body is. subst (RunsAsTheCode c.args.code.now) (sym is) (flat_runs_as SlotVar (λ e. cc) file c.args.code.now short lone).runs) c.flattened.ensures

@@ -1,0 +1,7 @@
+//! Tests of the whole program over outsides in memory.
+#![tactic(auto)]
+
+#[cfg(test)]
+mod body;
+#[cfg(test)]
+mod outside;
