@@ -117,6 +117,13 @@ IsAfterReadFault WriteFault = Unit {0}
 IsAfterReadFault NoMemory = Unit {0}
 IsAfterReadFault _ = ⊥
 
+-- the status is one of a run in which the outside counts no fault
+abbrev pub IsWithoutFault : Status → Type 0
+IsWithoutFault ReadFault = ⊥
+IsWithoutFault WriteFault = ⊥
+IsWithoutFault No = ⊥
+IsWithoutFault _ = Unit {0}
+
 -- How a run ends, by the due texts of each status (`due`) and by what the sink has before the run and now: with the due
 -- text written; with a front of a due text, where the sink failed; or for want of memory with nothing written.
 abbrev pub IsOutcome : (Status → List ℕ → Type 0) → Option (List ℕ) → Option (List ℕ) → ℕ → ℕ → Status → Type 0

@@ -2,7 +2,7 @@
 
 ghost use Rattle.std.specs.Prelude.{◌≡◌, ◌⊎◌, ◌<◌, ◌≤◌, ℕ, List, Option};
 ghost use Rattle.ilspy_cli.specs.declared.status.Status.{Status as StatusOf};
-ghost use Rattle.ilspy_cli.specs.Outcome.{IsDue, IsOutcome, MeansTheSame, HasNotRisen, IsAfterReadFault};
+ghost use Rattle.ilspy_cli.specs.Outcome.{IsDue, IsOutcome, MeansTheSame, HasNotRisen, IsWithoutFault, IsAfterReadFault};
 
 use crate::Status;
 use crate::answer::answer_words;
@@ -35,6 +35,9 @@ pub fn run<R: Threads + Sync, S: Shelf, K: Sink, G: Gate + Sync>(
         → (files : List ℕ → Option (List ℕ)) → S.files shelf.old ≡ Some files → (status : StatusOf) (text : List ℕ)
         → IsDue (S.files shelf.old) (S.faults shelf.old) (S.faults shelf.new) (S.last shelf.new) words.now status text
         → (result ≡ status) ⊎ (result ≡ Status.NoMemory) }
+
+    ensures without_faults { HasNotRisen (S.faults shelf.old) (S.faults shelf.new) → HasNotRisen (K.faults out.old) (K.faults out.new)
+        → IsWithoutFault result }
 
     // A fault that the outside counts is answered as one.
     ensures shelf_rose { S.faults shelf.old < S.faults shelf.new → IsAfterReadFault result }

@@ -1,5 +1,7 @@
 // The command `body`: what it writes for each file, and with which status.
 
+ghost use Rattle.std.specs.Prelude.{◌≤◌, length};
+
 use cil_body::lone;
 use cil_meaning::{LoneState, LoneStepped, lone_step};
 use cs_meaning::lone_exec;
@@ -10,9 +12,9 @@ use std::process::Abort;
 use std::test::Fail;
 use std::thread::Threads;
 
-const SUM: [u8; 5] = [0x12, 0x02, 0x03, 0x58, 0x2A];
+pub(crate) const SUM: [u8; 5] = [0x12, 0x02, 0x03, 0x58, 0x2A];
 
-const SUM_TEXT: &str =
+pub(crate) const SUM_TEXT: &str =
     "static int M(int a0, int a1, int a2, int a3)\n{\n    int v0 = a0;\n    int v1 = a1;\n    int v2 = v0 + v1;\n    return v2;\n}\n";
 
 /// The words of a command line.
@@ -144,29 +146,46 @@ fn words_out_of_form_are_answered_by_the_usage(rt: HostRuntime) -> Result<(), Fa
     Ok(())
 }
 
-#[test]
-fn the_code_and_its_flat_form_return_the_same(rt: HostRuntime) -> Result<(), Fail> {
-    let alloc = rt.alloc();
-    let Ok(code) = lone(alloc, &SUM) else {
-        return Err(Fail::from("no lone body"));
+// What the machine returns on the code of the file, by steps from its first instruction.
+fn returned_by_steps(alloc: Global, file: &[u8], args: [i32; 4]) -> Result<Option<i32>, NoMemory>
+    requires { length file.now ≤ 64 }
+{
+    let Ok(code) = lone(alloc, file) else {
+        return Ok(None);
     };
-    let args = [2, 3, 0, 0];
     let mut state = LoneState {
         at: 1,
         stack: Stack::new(alloc),
         args,
     };
-    let mut number = None;
-    for _ in 0..4 {
+    for _ in &code {
         match lone_step(&code, state)? {
             LoneStepped::Next(next) => state = next,
-            LoneStepped::Done(value) => {
-                number = Some(value);
-                break;
-            }
-            LoneStepped::Stuck => break,
+            LoneStepped::Done(value) => return Ok(Some(value)),
+            LoneStepped::Stuck => return Ok(None),
         }
     }
-    assert_eq!(rt; number, Some(5));
+    Ok(None)
+}
+
+// What the flat form of the file's code returns.
+fn returned_by_flat(alloc: Global, file: &[u8], args: [i32; 4]) -> Result<Option<i32>, NoMemory>
+    requires { length file.now ≤ 64 }
+{
+    match lone(alloc, file) {
+        Ok(code) => {
+            let body = flat(alloc, code.as_slice())?;
+            Ok(Some(lone_exec(alloc, &body, args)?))
+        }
+        Err(_) => Ok(None),
+    }
+}
+
+#[test]
+fn the_code_and_its_flat_form_return_the_same(rt: HostRuntime) -> Result<(), Fail> {
+    let alloc = rt.alloc();
+    let args = [2, 3, 0, 0];
+    assert_eq!(rt; returned_by_steps(alloc, &SUM, args)?, Some(5));
+    assert_eq!(rt; returned_by_flat(alloc, &SUM, args)?, Some(5));
     Ok(())
 }

@@ -1,11 +1,9 @@
 // The command `body` over outsides that fail or take little at once.
 
-use crate::body::{shelf_of, words_of};
+use crate::body::{SUM, SUM_TEXT, shelf_of, words_of};
 use dc_base::{FreeSink, MemSink, OpenGate};
 use ilspy_cli::{Status, run};
 use std::test::Fail;
-
-const SUM: [u8; 5] = [0x12, 0x02, 0x03, 0x58, 0x2A];
 
 #[test]
 fn a_fault_of_the_shelf_is_a_read_fault(rt: HostRuntime) -> Result<(), Fail> {
@@ -29,12 +27,12 @@ fn a_sink_that_takes_little_gets_all(rt: HostRuntime) -> Result<(), Fail> {
     out.reserve(1_048_576)?;
     let status = run(&rt, alloc, &words, &mut shelf, &mut out, &OpenGate);
     assert_eq!(rt; status, Status::Done);
-    assert_eq!(rt; out.written().len(), 118);
+    assert_eq!(rt; out.written(), SUM_TEXT.as_bytes());
     let mut free = FreeSink::of();
     let mut shelf = shelf_of(alloc, &SUM, &[])?;
     let status = run(&rt, alloc, &words, &mut shelf, &mut free, &OpenGate);
     assert_eq!(rt; status, Status::Done);
-    assert_eq!(rt; free.taken(), 118);
+    assert_eq!(rt; free.taken(), SUM_TEXT.len() as u64);
     Ok(())
 }
 
