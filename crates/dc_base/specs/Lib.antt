@@ -2,3 +2,4 @@ pub mod MemShelf
 pub mod MemSink
 pub mod Outside
 pub mod Script
+pub mod Spelling

@@ -1,5 +1,6 @@
 //! What every crate of the decompiler speaks of: the numbers that name types and members, the types of
-//! values (ECMA-335 I.8.2), the texts and lists that public fields hold, and the answer for want of memory.
+//! values (ECMA-335 I.8.2), the texts and lists that public fields hold, the numbers that its heaps and
+//! signatures spell ([`compressed`]), and the answer for want of memory.
 //!
 //! The outside is three traits. A program reads files from a [`Shelf`], writes bytes to a [`Sink`], and its
 //! workers pass a [`Gate`]. Shelf and sink keep a count of their failed calls: a call answers `Failed` only
@@ -15,6 +16,7 @@ mod list;
 mod mem_shelf;
 mod mem_sink;
 mod names;
+mod number;
 mod script;
 mod shelf;
 mod sink;
@@ -29,6 +31,7 @@ pub use list::Seq;
 pub use mem_shelf::MemShelf;
 pub use mem_sink::MemSink;
 pub use names::{MemberId, Token, TypeId};
+pub use number::{compressed, one_number_begins};
 pub use shelf::{Shelf, TakeFault};
 pub use sink::{Failed, Sink};
 pub use stack::Stack;
