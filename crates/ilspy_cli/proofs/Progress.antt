@@ -20,13 +20,15 @@ adds_both None mid new a b p q = q ∙ ap (option_map (λ bytes. bytes ++ b)) p
 adds_both (Some x) mid new a b p q = q ∙ ap (option_map (λ bytes. bytes ++ b)) p ∙ ap Some (append_assoc x a b)
 
 -- a put takes the text further
-pub further : (old mid new : Option (List ℕ)) (before at now : ℕ) (text : List ℕ) (done size n : ℕ) → Progress old mid before at text done → Puts (take size (drop done text)) mid new (Ok n) → CountsPut at now (Ok n) → Progress old new before now text (done + n)
-further old mid new before at now text done size n p put count =
-    let short : n ≤ length (drop done text) = omega (arith, put.1, length-take size (drop done text)) in
+pub further : (old mid new : Option (List ℕ)) (before at now : ℕ) (text : List ℕ) (piece : List ℕ) (done n : ℕ) → Progress old mid before at text done → piece ≡ take (length piece) (drop done text) → Puts piece mid new (Ok n) → CountsPut at now (Ok n) → Progress old new before now text (done + n)
+further old mid new before at now text piece done n p next put count =
+    let within : n ≤ length (take (length piece) (drop done text)) = omega (arith, put.1, ap length next) in
+    let short : n ≤ length (drop done text) = omega (arith, within, length-take (length piece) (drop done text)) in
+    let front : take n piece ≡ take n (drop done text) = ap (take n) next ∙ take-take n (length piece) (drop done text) within in
     record {
       within = omega (arith, p.within, length-drop done text);
       written = record {
-        adds = rw (take-add done n text, ← take-take n size (drop done text) put.1) (adds_both old mid new (take done text) (take n (take size (drop done text))) p.written.adds put.2);
+        adds = rw (take-add done n text, ← front) (adds_both old mid new (take done text) (take n piece) p.written.adds put.2);
         unfailed = count ∙ p.written.unfailed;
       };
     }

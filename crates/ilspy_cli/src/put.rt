@@ -1,6 +1,6 @@
 // Writing a whole text to a sink.
 
-ghost use Rattle.std.specs.Prelude.{◌≡◌, OnOk, OnErr};
+ghost use Rattle.std.specs.Prelude.{◌≡◌, ◌<◌, ◌≤◌, OnOk, OnErr, length, take, drop};
 ghost use Rattle.ilspy_cli.specs.Outcome.{IsWritten, IsCutShort};
 
 use dc_base::{Failed, Sink};
@@ -15,8 +15,18 @@ pub(crate) fn put_all<K: Sink>(out: &mut K, text: &[u8]) -> Result<(), Failed>
 {
     let mut done = 0;
     while done < text.len() {
-        let end = text.len().min(done.saturating_add(PIECE));
-        done += out.put(&text[done..end])?;
+        done += out.put(piece(text, done))?;
     }
     Ok(())
+}
+
+// The next piece of a text of which `done` bytes are written.
+fn piece(text: &[u8], done: usize) -> &[u8]
+    requires { done < length text.now }
+    ensures some { 0 < length result.now }
+    ensures short { length result.now ≤ PIECE }
+    ensures next { result.now ≡ take (length result.now) (drop done text.now) }
+{
+    let end = text.len().min(done.saturating_add(PIECE));
+    &text[done..end]
 }

@@ -9,4 +9,4 @@ returns-in_err-done-clause-failed g c =
     rw p.1 (cut_short _ _ _ _ _ _ _ _ c.loop-done.invariant c.in_err-done.ensures.puts c.in_err-done.ensures.counts)
 
 pub loop-done-preserved : goal.loop-done-preserved
-loop-done-preserved g c = further _ _ _ _ _ _ _ _ _ _ c.loop-done.invariant c.in_ok-done.ensures.puts c.in_ok-done.ensures.counts
+loop-done-preserved g c = further _ _ _ _ _ _ _ _ _ _ c.loop-done.invariant c.piece.ensures.next c.in_ok-done.ensures.puts c.in_ok-done.ensures.counts
