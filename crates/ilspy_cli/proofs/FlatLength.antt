@@ -1,6 +1,5 @@
 -- A flat form has no more statements than its code has instructions.
-use Rattle.std.proofs.Common.{ℕ, ◌+◌, ◌≤◌, List, [], ◌∷◌, length, ℤ, Option, Some, None, arith}
-use Rattle.cil_body.specs.declared.opcode.Row.{Row}
+use Rattle.std.proofs.Common.{ℕ, ◌+◌, ◌≤◌, List, [], ◌∷◌, length, Option, Some, None, arith}
 use Rattle.cil_body.specs.Opcode.{row_of}
 use Rattle.cil_body.specs.Cut.{Placed}
 use Rattle.cs_meaning.specs.declared.tree.Expr.{Expr}

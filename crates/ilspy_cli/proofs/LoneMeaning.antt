@@ -1,13 +1,13 @@
 -- The text reads as one tree, whose body is that of the flat form; and the flat form returns what the code returns.
-use Rattle.std.proofs.Common.{◌≡◌, ℕ, ◌≤◌, ◌<◌, ◌^◌, List, [], length, arith}
+use Rattle.std.proofs.Common.{ℕ, ◌≤◌, ◌<◌, ◌^◌, List, [], length, arith}
 use Rattle.cil_body.proofs.Reading.{IsLone-consecutive}
 use Rattle.cs_meaning.specs.declared.body.Role.TheVariants.{Local, SlotVar}
 use Rattle.ilspy_cli.specs.Flat.{flat_from, lone_body, flat_of}
 use Rattle.ilspy_cli.specs.Layout.{text_of}
 use Rattle.ilspy_cli.proofs.CilRuns.{consecutive_length}
 use Rattle.ilspy_cli.proofs.FlatLength.{flat_within}
-use Rattle.ilspy_cli.proofs.Returns.{FlatMeansTheSame, flat_runs_as}
-use Rattle.ilspy_cli.proofs.TextReads.{TextReads, flat_text_reads}
+use Rattle.ilspy_cli.proofs.Returns.{flat_runs_as}
+use Rattle.ilspy_cli.proofs.TextReads.{flat_text_reads}
 use Rattle.ilspy_cli.proofs.TokensUnique.{one_tokens}
 use Rattle.ilspy_cli.proofs.TreeUnique.{one_tree_of}
 use Rattle.cil_body.specs.Cut.{Placed}

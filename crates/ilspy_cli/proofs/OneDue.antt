@@ -1,17 +1,14 @@
 -- Where files are told and no fault of the shelf is counted, one status and one text are due.
-use Rattle.std.proofs.Common.{◌≡◌, ◌≢◌, ◌⊎◌, inl, inr, ℕ, ◌<◌, ◌≤◌, List, [], ◌∷◌, length, Option, Some, None, option_map, refl, sym, ap, ◌∙◌, subst, arith}
-use Rattle.cil_body.specs.declared.standalone.LoneFault.{LoneFault}
-use Rattle.cil_body.specs.Cut.{Placed}
-use Rattle.cil_body.specs.Lone.{IsLone, IsLoneFault}
+use Rattle.std.proofs.Common.{◌≡◌, inl, inr, ℕ, List, [], ◌∷◌, length, Option, Some, option_map, refl, sym, ap, ◌∙◌, subst, arith}
 use Rattle.cil_body.proofs.Reading.{one_code, no_fault, one_fault}
-use Rattle.dc_base.specs.Outside.{HasRisen, IsFile, IsFileLength}
+use Rattle.dc_base.specs.Outside.{HasRisen}
 use Rattle.ilspy_cli.specs.declared.status.Status.{Status}
 use Rattle.ilspy_cli.specs.declared.status.Status.TheVariants.{Done, Refused, Usage, ReadFault, WriteFault, NoMemory, No}
 use Rattle.ilspy_cli.specs.Words.{AreWordsInForm}
-use Rattle.ilspy_cli.specs.Lines.{usage_line, too_big_line, fault_line}
+use Rattle.ilspy_cli.specs.Lines.{too_big_line, fault_line}
 use Rattle.ilspy_cli.specs.Flat.{flat_of}
 use Rattle.ilspy_cli.specs.Layout.{text_of}
-use Rattle.ilspy_cli.specs.Outcome.{limit, Names, IsBodyDue, IsOfFile, IsTooBig, IsUsage, IsUnread, IsDue}
+use Rattle.ilspy_cli.specs.Outcome.{Names, IsBodyDue, IsOfFile, IsTooBig, IsUsage, IsDue}
 
 -- the two statuses and the two texts are the same
 pub record SameDue (s s' : Status) (t t' : List ℕ) : Type 0 where

@@ -1,5 +1,5 @@
 -- How far a text is written.
-use Rattle.std.proofs.Common.{◌≡◌, ℕ, ◌≤◌, ◌<◌, ◌+◌, min, List, [], ◌++◌, length, take, drop, Option, Some, None, Ok, Err, option_map, refl, ap, ◌∙◌, sym, arith, append_assoc}
+use Rattle.std.proofs.Common.{◌≡◌, ℕ, ◌≤◌, ◌+◌, List, ◌++◌, length, take, drop, Option, Some, None, Ok, option_map, ap, ◌∙◌, sym, arith, append_assoc}
 use Rattle.std.proofs.lemmas.List.{take-append-drop, take-append-le, length-take, length-drop}
 use Rattle.std.proofs.Math.Seq.{take-add}
 use Rattle.dc_base.specs.Outside.{Puts, CountsPut, HasRisen}

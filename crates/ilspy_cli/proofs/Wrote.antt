@@ -1,5 +1,5 @@
 -- What was written for a lone body means what the body means.
-use Rattle.std.proofs.Common.{◌≡◌, ℕ, List, Option}
+use Rattle.std.proofs.Common.{ℕ, List, Option}
 use Rattle.ilspy_cli.specs.declared.status.Status.{Status}
 use Rattle.ilspy_cli.specs.declared.status.Status.TheVariants.{Done, Refused, Usage, ReadFault, WriteFault, NoMemory, No}
 use Rattle.ilspy_cli.specs.Outcome.{Files, IsDue, IsWritten, MeansTheSame}

@@ -1,5 +1,5 @@
 -- Which body a tree has (ECMA-334 12.2, 12.8.4, 13.6.2): names are bound to variables, and literals to ints.
-use Rattle.std.specs.Prelude.{◌≡◌, ℕ, ◌+◌, ◌^◌, Bool, true, false, ◌&&◌, ◌==◌, ℤ, pos, neg_ℤ, List, [], ◌∷◌, ◌++◌, length, Option, Some, None, option_map, option_and_then, is_none, nat_lt, nat_le, if◌then◌else◌, position}
+use Rattle.std.specs.Prelude.{ℕ, ◌^◌, Bool, true, false, ◌&&◌, ◌==◌, ℤ, pos, neg_ℤ, List, [], ◌∷◌, ◌++◌, length, Option, Some, None, option_map, option_and_then, is_none, nat_lt, nat_le, if◌then◌else◌, position}
 use Rattle.cs_meaning.specs.declared.body.Body.{Body}
 use Rattle.cs_meaning.specs.declared.body.Role.TheVariants.{Local}
 use Rattle.cs_meaning.specs.declared.tree.Literal.TheVariants.{Int}

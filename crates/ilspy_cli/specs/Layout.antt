@@ -1,5 +1,5 @@
 -- The text of a flat body.
-use Rattle.std.specs.Prelude.{ℕ, ◌-◌, List, [], ◌∷◌, ◌++◌, Some, None, codes, flat_map, nat_lt, if◌then◌else◌}
+use Rattle.std.specs.Prelude.{ℕ, ◌-◌, List, [], ◌∷◌, ◌++◌, Some, codes, flat_map, nat_lt, if◌then◌else◌}
 use Rattle.std.specs.Fmt.{decimal, signed_decimal}
 use Rattle.cs_meaning.specs.declared.body.Body.{Body}
 use Rattle.cs_meaning.specs.declared.tree.Literal.TheVariants.{Int}

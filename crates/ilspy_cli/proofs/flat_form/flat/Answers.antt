@@ -1,5 +1,5 @@
 -- The flat form of a lone body's code runs as the code.
-use Rattle.std.proofs.Common.{◌≡◌, subst, sym}
+use Rattle.std.proofs.Common.{subst, sym}
 use Rattle.std.proofs.lemmas.Result.{IfOk-weaker}
 use Rattle.cs_meaning.specs.declared.body.Role.TheVariants.{SlotVar}
 use Rattle.ilspy_cli.specs.Theorem.{RunsAsTheCode}

@@ -1,7 +1,5 @@
 -- A push declares one more variable; where nothing is pushed the code returns.
-use Rattle.std.proofs.Common.{◌≡◌, ◌++◌, ◌∷◌, arith, subst, sym}
-use Rattle.ilspy_cli.specs.Flat.{returned, Pushes}
-use Rattle.ilspy_cli.proofs.FlatCode.{declares_more, returns_all, counted_still}
+use Rattle.ilspy_cli.proofs.FlatCode.{declares_more, counted_still}
 use Rattle.ilspy_cli.proofs.flat_form.flattened.Goals as goal
 
 pub finished-requires : goal.finished-requires

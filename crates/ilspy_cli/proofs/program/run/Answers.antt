@@ -1,5 +1,5 @@
 -- What was put is what was due, and one status is due.
-use Rattle.std.proofs.Common.{inl, sym}
+use Rattle.std.proofs.Common.{inl}
 use Rattle.ilspy_cli.proofs.OneDue.{one_due}
 use Rattle.ilspy_cli.proofs.Wrote.{wrote_the_same}
 use Rattle.ilspy_cli.proofs.program.run.Goals as goal

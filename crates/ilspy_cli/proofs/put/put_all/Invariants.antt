@@ -1,6 +1,5 @@
 -- So far the first `done` bytes are written, and no fault is counted.
-use Rattle.std.proofs.Common.{◌≡◌, ◌-◌, ◌≤◌, length, take}
-use Rattle.ilspy_cli.specs.Outcome.{IsWritten}
+use Rattle.std.proofs.Common.{◌-◌, length}
 use Rattle.ilspy_cli.proofs.Progress.{Progress}
 use Rattle.ilspy_cli.proofs.put.put_all.Given as goal
 
