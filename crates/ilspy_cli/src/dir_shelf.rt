@@ -1,6 +1,6 @@
 // A shelf over the files of the system.
 
-ghost use Rattle.std.specs.Prelude.{◌≤◌, None, option_map};
+ghost use Rattle.std.specs.Prelude.{◌≡◌, ◌≤◌, None, option_map};
 ghost use Rattle.ilspy_cli.specs.Outside.{IsWithin};
 
 use dc_base::{Or, Shelf, TakeFault, Text};
@@ -21,7 +21,10 @@ pub struct DirShelf<'a, R: Files> {
 }
 
 impl<'a, R: Files> DirShelf<'a, R> {
-    pub fn of(rt: &'a R) -> Self {
+    /// No call has failed yet.
+    pub fn of(rt: &'a R) -> Self
+        ensures { ⟦<DirShelf<'a, R> as Shelf>⟧.faults result ≡ 0 }
+    {
         DirShelf {
             rt,
             faults: 0,

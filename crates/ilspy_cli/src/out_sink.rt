@@ -1,6 +1,6 @@
 // A sink over a writer of the system.
 
-ghost use Rattle.std.specs.Prelude.{◌≤◌, None, length};
+ghost use Rattle.std.specs.Prelude.{◌≡◌, ◌≤◌, None, length};
 
 use dc_base::{Failed, Sink};
 use std::io::{self, Write};
@@ -13,7 +13,10 @@ pub struct OutSink<W: Write> {
 }
 
 impl<W: Write> OutSink<W> {
-    pub fn of(writer: W) -> Self {
+    /// No call has failed yet.
+    pub fn of(writer: W) -> Self
+        ensures { ⟦<OutSink<W> as Sink>⟧.faults result ≡ 0 }
+    {
         OutSink { writer, faults: 0 }
     }
 }
