@@ -1,0 +1,5 @@
+pub mod Headers
+pub mod Places
+pub mod Cells
+pub mod Whole
+pub mod Standard

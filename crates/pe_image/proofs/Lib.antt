@@ -1,0 +1,5 @@
+pub mod Options
+pub mod Ranges
+pub mod Tables
+pub mod Unique
+pub mod Faults

@@ -1,0 +1,9 @@
+pub mod Number
+pub mod Headers
+pub mod Sections
+pub mod Table
+pub mod Cli
+pub mod Image
+pub mod View
+pub mod Fault
+pub mod Laws

@@ -1,0 +1,17 @@
+-- The sections of a table of section headers, as the code goes over it.
+use Rattle.std.specs.Prelude.{ℕ, zero, suc, ◌+◌, List, [], ◌∷◌, drop}
+use Rattle.pe_image.specs.declared.sections.Section.{Section}
+use Rattle.pe_image.specs.declared.sections.Table.{Table}
+use Rattle.pe_image.specs.Sections.{section_of, AreSections}
+
+-- what so many section headers from this place on say
+abbrev pub sections_from : List ℕ → ℕ → ℕ → List Section
+sections_from file place zero = []
+sections_from file place (suc n) = section_of (drop place file) ∷ sections_from file (place + 40) n
+
+abbrev pub sections_of : List ℕ → Table → List Section
+sections_of file table = sections_from file table.place table.count
+
+-- the section headers are in the file, and so are the raw bytes that they speak of
+abbrev pub IsTable : List ℕ → Table → Type 0
+IsTable file table = AreSections file table.place (sections_of file table)
