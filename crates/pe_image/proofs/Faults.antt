@@ -1,10 +1,9 @@
 -- A file has one reading or one fault.
-use Rattle.std.proofs.Common.{◌≡◌, ℕ, zero, suc, ◌+◌, ◌*◌, ◌<◌, ◌≤◌, ◌⊎◌, inl, inr, List, [], ◌∷◌, length, refl, sym, ap, ◌∙◌, subst, arith}
+use Rattle.std.proofs.Common.{◌≡◌, ℕ, zero, suc, ◌+◌, ◌*◌, ◌<◌, inl, inr, List, [], ◌∷◌, length, refl, sym, ap, ◌∙◌, subst, arith}
 use Rattle.std.proofs.lemmas.Bool.{cases_lt}
 use Rattle.pe_image.specs.declared.fault.ImageFault.{ImageFault}
 use Rattle.pe_image.specs.declared.fault.ImageCause.{ImageCause}
 use Rattle.pe_image.specs.declared.fault.ImageCause.TheVariants.{NotPe, BadSection, NoCli, NotIlOnly}
-use Rattle.pe_image.specs.declared.headers.Format.{Format}
 use Rattle.pe_image.specs.declared.headers.Headers.{Headers}
 use Rattle.pe_image.specs.declared.sections.Section.{Section}
 use Rattle.pe_image.specs.declared.sections.Span.{Span}
@@ -13,7 +12,7 @@ use Rattle.pe_image.specs.Headers.{IsPe, magic_of, table_place}
 use Rattle.pe_image.specs.Sections.{AreSections, HasSections, IsSection}
 use Rattle.pe_image.specs.Cli.{HasCli, IsIlOnly, directory_place, flags_place}
 use Rattle.pe_image.specs.Image.{IsImage}
-use Rattle.pe_image.specs.Fault.{IsSignature, IsNotPe, IsBadSection, IsNoCli, IsNotIlOnly, IsWrong, IsImageFault}
+use Rattle.pe_image.specs.Fault.{IsSignature, IsNotPe, IsBadSection, IsNoCli, IsNotIlOnly, IsWrong}
 use Rattle.pe_image.specs.Laws.{HasOneReading, HasNoFault, HasOneFault, RangesAreWithin, RestsAreWithin, MetadataIsWithin}
 use Rattle.pe_image.proofs.Ranges.{range_at-within, range_from-within}
 use Rattle.pe_image.proofs.Unique.{one_number, one_pe, one_sections, one_cli_of}

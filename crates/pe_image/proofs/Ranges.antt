@@ -1,9 +1,9 @@
 -- The ranges of an image are in its file.
-use Rattle.std.proofs.Common.{◌≡◌, ℕ, ◌+◌, ◌-◌, ◌≤◌, Bool, true, List, [], ◌∷◌, length, Option, Some, refl, subst, sym, inl, inr, arith}
+use Rattle.std.proofs.Common.{◌≡◌, ℕ, ◌+◌, ◌≤◌, Bool, true, List, [], ◌∷◌, length, Some, refl, subst, inl, inr, arith}
 use Rattle.std.specs.Prelude.{find}
 use Rattle.pe_image.specs.declared.sections.Section.{Section}
 use Rattle.pe_image.specs.declared.sections.Span.{Span}
-use Rattle.pe_image.specs.Sections.{AreSections, holds, place_of, range_at, range_from}
+use Rattle.pe_image.specs.Sections.{AreSections, holds, range_at, range_from}
 use Rattle.pe_image.proofs.Options.{chosen, mapped}
 
 -- a section that is found passes the test, and its raw bytes are in the file

@@ -1,5 +1,5 @@
 -- What a file says it says in one way.
-use Rattle.std.proofs.Common.{◌≡◌, ℕ, suc, ◌+◌, ◌<◌, List, [], ◌∷◌, length, drop, Option, Some, None, refl, sym, ap, ◌∙◌, subst, arith}
+use Rattle.std.proofs.Common.{◌≡◌, ℕ, ◌+◌, List, [], ◌∷◌, length, Option, Some, None, refl, sym, ap, ◌∙◌, subst, arith}
 use Rattle.std.specs.Prelude.{IfNone}
 use Rattle.pe_image.specs.declared.headers.Format.{Format}
 use Rattle.pe_image.specs.declared.headers.Format.TheVariants.{Pe32, Pe32Plus}

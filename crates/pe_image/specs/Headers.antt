@@ -1,5 +1,5 @@
 -- The headers of a PE file (ECMA-335 II.25.2).
-use Rattle.std.specs.Prelude.{◌≡◌, ℕ, ◌+◌, List}
+use Rattle.std.specs.Prelude.{ℕ, ◌+◌, List}
 use Rattle.pe_image.specs.declared.headers.Format.{Format}
 use Rattle.pe_image.specs.declared.headers.Format.TheVariants.{Pe32, Pe32Plus}
 use Rattle.pe_image.specs.declared.headers.Headers.{Headers}

@@ -1,5 +1,5 @@
 -- The sections of an image, and where in its file the bytes at an address are (ECMA-335 II.25.3).
-use Rattle.std.specs.Prelude.{◌≡◌, ℕ, ◌+◌, ◌*◌, ◌-◌, ◌≤◌, Bool, ◌&&◌, nat_le, List, [], ◌∷◌, length, take, drop, Option, find, option_map}
+use Rattle.std.specs.Prelude.{◌≡◌, ℕ, ◌+◌, ◌-◌, ◌≤◌, Bool, ◌&&◌, nat_le, List, [], ◌∷◌, length, take, drop, Option, find, option_map}
 use Rattle.pe_image.specs.declared.headers.Headers.{Headers}
 use Rattle.pe_image.specs.declared.sections.Section.{Section}
 use Rattle.pe_image.specs.declared.sections.Span.{Span}

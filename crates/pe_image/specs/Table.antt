@@ -1,4 +1,4 @@
--- The sections of a table of section headers, as the code goes over it.
+-- A table of section headers, and the sections that it lists (ECMA-335 II.25.3).
 use Rattle.std.specs.Prelude.{ℕ, zero, suc, ◌+◌, List, [], ◌∷◌, drop}
 use Rattle.pe_image.specs.declared.sections.Section.{Section}
 use Rattle.pe_image.specs.declared.sections.Table.{Table}

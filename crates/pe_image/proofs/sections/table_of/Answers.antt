@@ -1,5 +1,4 @@
-use Rattle.std.proofs.Common.{◌≡◌, ◌<◌, ◌+◌, ◌*◌, ◌∙◌, rules, ap, sym, subst, suc, ℕ, add-one, drop, arith}
-use Rattle.pe_image.specs.Sections.{IsSection, AreSections, section_of}
+use Rattle.std.proofs.Common.{rules, add-one}
 use Rattle.pe_image.specs.Table.{sections_from}
 use Rattle.pe_image.proofs.Tables.{sections_more, length-sections_from}
 use Rattle.pe_image.proofs.sections.table_of.Goals as goal

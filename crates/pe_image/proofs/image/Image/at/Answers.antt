@@ -1,5 +1,5 @@
 use Rattle.pe_image.proofs.Ranges.{range_at-within}
-use Rattle.std.proofs.Common.{sym, ◌∙◌}
+use Rattle.std.proofs.Common.{sym}
 use Rattle.pe_image.proofs.image.Image.at.Goals as goal
 
 pub of-requires : goal.of-requires

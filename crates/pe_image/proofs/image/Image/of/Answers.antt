@@ -1,4 +1,4 @@
-use Rattle.std.proofs.Common.{arith, sym}
+use Rattle.std.proofs.Common.{arith}
 use Rattle.pe_image.proofs.Ranges.{range_at-within}
 use Rattle.pe_image.proofs.image.Image.of.Goals as goal
 
