@@ -1,0 +1,5 @@
+pub mod Element
+pub mod Grammar
+pub mod Fault
+pub mod Reading
+pub mod Laws
