@@ -1,13 +1,11 @@
 -- A walk over stream headers.
-use Rattle.std.proofs.Common.{◌≡◌, ℕ, zero, suc, ◌+◌, ◌-◌, ◌<◌, ◌≤◌, List, [], ◌∷◌, Bool, true, false, cond, Option, None, Some, Result, Ok, Err, find, refl, sym, ap, subst, ◌∙◌, arith}
+use Rattle.std.proofs.Common.{◌≡◌, ℕ, suc, ◌+◌, ◌-◌, ◌<◌, ◌≤◌, List, [], ◌∷◌, true, false, Option, None, Some, Result, Ok, Err, refl, sym, ap, subst, ◌∙◌, arith}
 use Rattle.std.specs.Prelude.{IsOk}
-use Rattle.std.specs.Option.{option_map}
 use Rattle.std.specs.Str.{bytes_eq}
 use Rattle.cli_metadata.specs.declared.fault.MetaFault.{MetaFault}
 use Rattle.cli_metadata.specs.declared.root.Stream.{Stream}
-use Rattle.cli_metadata.specs.declared.root.Streams.{Streams}
 use Rattle.cli_metadata.specs.Reading.{◌>>=◌}
-use Rattle.cli_metadata.specs.Root.{Header, header_at, headers_at, named, named_in, end_of, found_in, streams_in, past_end, earlier, IsWithin}
+use Rattle.cli_metadata.specs.Root.{Header, header_at, headers_at, named_in, end_of, found_in, streams_in}
 
 abbrev after : Header → Result (List Header × ℕ) MetaFault → Result (List Header × ℕ) MetaFault
 after h others = others >>= λ o. Ok (h ∷ o.0, o.1)

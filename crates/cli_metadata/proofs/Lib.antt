@@ -3,3 +3,4 @@ pub mod Places
 pub mod Cells
 pub mod Whole
 pub mod Standard
+pub mod Ranges

@@ -1,5 +1,5 @@
 -- Loops over the row counts and over the tables.
-use Rattle.std.proofs.Common.{◌≡◌, ◌≢◌, ◌⊎◌, inl, inr, ◌&&◌, ◌||◌, ℕ, zero, suc, ◌+◌, ◌-◌, ◌*◌, ◌/◌, ◌%◌, ◌<◌, ◌≤◌, List, [], ◌∷◌, ◌++◌, length, get_or, take, drop, set, Bool, true, false, cond, ltb, Result, Ok, Err, refl, sym, ap, subst, ◌∙◌, append_assoc, arith, drop-cons, add-one}
+use Rattle.std.proofs.Common.{◌≡◌, ◌≢◌, ◌⊎◌, inl, inr, ◌&&◌, ◌||◌, ℕ, zero, suc, ◌+◌, ◌-◌, ◌*◌, ◌/◌, ◌%◌, ◌<◌, ◌≤◌, List, [], ◌∷◌, ◌++◌, length, get_or, take, drop, set, Bool, true, cond, ltb, Result, Ok, Err, refl, sym, ap, subst, ◌∙◌, append_assoc, arith, drop-cons, add-one}
 use Rattle.std.specs.Prelude.{map, slice_index, ◌==◌}
 use Rattle.std.proofs.lemmas.List.{append-nil, take_more_set, take_all, drop_all}
 use Rattle.cli_metadata.specs.declared.fault.MetaFault.{MetaFault}
@@ -119,11 +119,11 @@ module _ (sizes : ℕ) (counts : List ℕ) (bytes : List ℕ) where
 
 -- ---- tables stand whole
 
-bind_ok : {A B : Type 0} (r : Result A MetaFault) (f : A → Result B MetaFault) (y : B) → (r >>= f) ≡ Ok y → (x : A) × (r ≡ Ok x) × (f x ≡ Ok y)
+pub bind_ok : {A B : Type 0} (r : Result A MetaFault) (f : A → Result B MetaFault) (y : B) → (r >>= f) ≡ Ok y → (x : A) × (r ≡ Ok x) × (f x ≡ Ok y)
 bind_ok (Ok x) f y e = (x, refl, e)
 bind_ok (Err d) f y e = absurd cc
 
-guard_whole : (len end : ℕ) (f : MetaFault) (x : ℕ) → cond (ltb len end) (Err f) (Ok end) ≡ Ok x → (end ≡ x) × (end ≤ len)
+pub guard_whole : (len end : ℕ) (f : MetaFault) (x : ℕ) → cond (ltb len end) (Err f) (Ok end) ≡ Ok x → (end ≡ x) × (end ≤ len)
 guard_whole len end f x e = grind arith
 
 table-whole : (widths : List Width) (rows : ℕ) (bytes : List ℕ) (at : ℕ) (x : Placed × ℕ) → table_at widths rows bytes at ≡ Ok x → x.0.start + x.0.rows * row_width x.0.widths ≤ length bytes

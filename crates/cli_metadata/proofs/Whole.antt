@@ -1,10 +1,8 @@
 -- Metadata as a whole.
-use Rattle.std.proofs.Common.{◌≡◌, ℕ, List, Result, Ok, Err, refl, sym, ap, ◌∙◌}
-use Rattle.cli_metadata.specs.declared.fault.MetaFault.{MetaFault}
+use Rattle.std.proofs.Common.{◌≡◌, ℕ, List, Ok, refl, sym, ap, ◌∙◌}
 use Rattle.cli_metadata.specs.declared.tables.Column.{Column}
 use Rattle.cli_metadata.specs.declared.root.Streams.{Streams}
 use Rattle.cli_metadata.specs.declared.layout.Placed.{Placed}
-use Rattle.cli_metadata.specs.Reading.{◌>>=◌}
 use Rattle.cli_metadata.specs.Root.{streams_of}
 use Rattle.cli_metadata.specs.Layout.{tables_of}
 use Rattle.cli_metadata.specs.Metadata.{Contents, heap_of, up_to_tables, metadata_with}

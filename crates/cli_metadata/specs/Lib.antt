@@ -6,3 +6,4 @@ pub mod Widths
 pub mod Layout
 pub mod Metadata
 pub mod Standard
+pub mod Laws

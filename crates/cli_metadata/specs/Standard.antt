@@ -1,12 +1,11 @@
 -- The tables of the standard in its own order (ECMA-335 II.22.2 to II.22.39), and its coded indices (II.24.2.6).
-use Rattle.std.specs.Prelude.{◌≡◌, ℕ, ◌-◌, List, [], ◌∷◌, ◌++◌, length, map, replicate, find, Option, None, Some, ◌==◌}
+use Rattle.std.specs.Prelude.{◌≡◌, ℕ, ◌-◌, List, [], ◌∷◌, ◌++◌, length, map, replicate, find, Option, ◌==◌}
 use Rattle.std.specs.Option.{option_map, option_map_or}
 use Rattle.std.specs.List.{range_with_len}
 use Rattle.cli_metadata.specs.declared.tables.Column.{Column}
 use Rattle.cli_metadata.specs.declared.tables.Column.TheVariants.{Absent, Number1, Number2, Number4, Strings, Guid, Blob, Table, Coded}
 use Rattle.cli_metadata.specs.declared.tables.Coded.{Coded as Kind}
 use Rattle.cli_metadata.specs.declared.tables.Coded.TheVariants.{TypeDefOrRef, HasConstant, HasCustomAttribute, HasFieldMarshal, HasDeclSecurity, MemberRefParent, HasSemantics, MethodDefOrRef, MemberForwarded, Implementation, CustomAttributeType, ResolutionScope, TypeOrMethodDef}
-use Rattle.cli_metadata.specs.declared.tables.Targets.{Targets}
 use Rattle.cli_metadata.specs.declared.tables.TheConstants.{TABLES}
 use Rattle.cli_metadata.specs.Tables.{targets_of}
 

@@ -1,7 +1,4 @@
 -- The tables and the coded indices, as the crate's constants have them.
-use Rattle.std.specs.Prelude.{◌≡◌, ℕ, List, Bool, true, false, not}
-use Rattle.cli_metadata.specs.declared.tables.Column.{Column}
-use Rattle.cli_metadata.specs.declared.tables.Column.TheVariants.{Absent}
 use Rattle.cli_metadata.specs.declared.tables.Coded.{Coded}
 use Rattle.cli_metadata.specs.declared.tables.Coded.TheVariants.{TypeDefOrRef, HasConstant, HasCustomAttribute, HasFieldMarshal, HasDeclSecurity, MemberRefParent, HasSemantics, MethodDefOrRef, MemberForwarded, Implementation, CustomAttributeType, ResolutionScope, TypeOrMethodDef}
 use Rattle.cli_metadata.specs.declared.tables.Targets.{Targets}

@@ -1,5 +1,5 @@
 -- How many bytes a cell has (ECMA-335 II.24.2.6).
-use Rattle.std.specs.Prelude.{◌≡◌, ℕ, ◌+◌, ◌*◌, ◌-◌, ◌/◌, ◌^◌, List, Bool, true, false, Option, None, Some, nat_lt, ◌==◌, if◌then◌else◌, slice_index, bit_and, map}
+use Rattle.std.specs.Prelude.{ℕ, ◌-◌, ◌^◌, List, Bool, true, false, Option, None, Some, nat_lt, ◌==◌, slice_index, bit_and}
 use Rattle.std.specs.List.{list_all, sum_by}
 use Rattle.cli_metadata.specs.declared.tables.Column.{Column}
 use Rattle.cli_metadata.specs.declared.tables.Column.TheVariants.{Absent, Number1, Number2, Number4, Strings, Guid, Blob, Table, Coded}

@@ -1,4 +1,13 @@
-//! Metadata: its root, heaps and tables (ECMA-335 II.22, II.24).
+//! Metadata: its root, heaps and tables (ECMA-335 II.22, II.24). `Metadata::of` finds the streams and the place of each
+//! table once and walks no row; what it hands out are slices of the bytes that it was made of, and nothing takes memory.
+//!
+//! ```text
+//! root ─ stream headers ─ #~: fields, row counts, table ─ table ─ ..  each row: its cells, side by side
+//!                       ─ #Strings, #US, #Blob: items that begin at an index
+//! ```
+//!
+//! Places count bytes from the root's first one. The tables with their columns stand in `TABLES`, the coded indices with
+//! their tables in `Coded::targets`.
 #![tactic(auto)]
 
 mod fault;
@@ -14,7 +23,7 @@ mod widths;
 
 pub use dc_base::compressed;
 pub use fault::{MetaCause, MetaFault};
-pub use laws::tables_are_the_standards;
+pub use laws::{rows_are_ranges, tables_are_the_standards};
 pub use metadata::Metadata;
 pub use row::{Row, coded};
 pub use tables::{Coded, Column, TABLES, Targets};

@@ -1,4 +1,4 @@
-use Rattle.std.proofs.Common.{◌≡◌, ◌<◌, [], inl, inr, length, sym, ap, ◌∙◌, arith}
+use Rattle.std.proofs.Common.{[], inl, inr, sym, ◌∙◌, arith}
 use Rattle.cli_metadata.specs.Layout.{are_tables}
 use Rattle.cli_metadata.proofs.Places.{bits-go}
 use Rattle.cli_metadata.proofs.layout.are_tables.Goals as goal

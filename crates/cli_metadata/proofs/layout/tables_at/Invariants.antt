@@ -1,4 +1,4 @@
-use Rattle.std.proofs.Common.{◌≡◌, ◌-◌, ◌≤◌, length, take, drop}
+use Rattle.std.proofs.Common.{◌≡◌, ◌≤◌, length, take, drop}
 use Rattle.cli_metadata.specs.Layout.{tables_at}
 use Rattle.cli_metadata.proofs.Places.{tables_behind}
 use Rattle.cli_metadata.proofs.layout.tables_at.Given as goal

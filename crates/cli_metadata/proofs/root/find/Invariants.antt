@@ -1,4 +1,4 @@
-use Rattle.std.proofs.Common.{◌≡◌, ◌-◌, ◌≤◌, length}
+use Rattle.std.proofs.Common.{◌-◌, ◌≤◌, length}
 use Rattle.cli_metadata.specs.Root.{headers_at, named_in}
 use Rattle.cli_metadata.proofs.Headers.{Seeks}
 use Rattle.cli_metadata.proofs.root.find.Given as goal

@@ -1,6 +1,4 @@
-use Rattle.std.proofs.Common.{refl, length}
 use Rattle.cli_metadata.specs.declared.tables.TheConstants.{TABLES}
-use Rattle.cli_metadata.specs.Layout.{ArePlaced}
 use Rattle.cli_metadata.proofs.Whole.{read-as}
 use Rattle.cli_metadata.proofs.metadata.Metadata.of.Goals as goal
 

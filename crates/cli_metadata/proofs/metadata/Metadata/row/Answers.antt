@@ -1,6 +1,5 @@
-use Rattle.std.proofs.Common.{◌≤◌, length, arith}
+use Rattle.std.proofs.Common.{length, arith}
 use Rattle.cli_metadata.specs.declared.layout.TheConstants.{UNPLACED}
-use Rattle.cli_metadata.specs.Widths.{row_width}
 use Rattle.cli_metadata.proofs.Places.{placed-at}
 use Rattle.cli_metadata.proofs.metadata.Metadata.row.Goals as goal
 
