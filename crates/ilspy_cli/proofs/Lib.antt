@@ -16,5 +16,10 @@ pub mod Progress
 pub mod FlatCode
 pub mod FlatLength
 pub mod LoneMeaning
+pub mod DueOfFile
+pub mod SameDue
+pub mod FormFacts
+pub mod OneName
+pub mod OneShow
 pub mod OneDue
 pub mod Wrote

@@ -1,27 +1,18 @@
 -- Where files are told and no fault of the shelf is counted, one status and one text are due.
-use Rattle.std.proofs.Common.{◌≡◌, inl, inr, ℕ, List, [], ◌∷◌, length, Option, Some, option_map, refl, sym, ap, ◌∙◌, subst, arith}
+use Rattle.std.proofs.Common.{◌≡◌, inl, inr, ℕ, List, length, Option, Some, option_map, refl, sym, ap, ◌∙◌, subst, arith}
 use Rattle.cil_body.proofs.Reading.{one_code, no_fault, one_fault}
 use Rattle.dc_base.specs.Outside.{HasRisen}
 use Rattle.ilspy_cli.specs.declared.status.Status.{Status}
 use Rattle.ilspy_cli.specs.declared.status.Status.TheVariants.{Done, Refused, Usage, ReadFault, WriteFault, NoMemory, No}
-use Rattle.ilspy_cli.specs.Words.{AreWordsInForm}
+use Rattle.ilspy_cli.specs.declared.words.Command.{Command}
+use Rattle.ilspy_cli.specs.declared.words.Command.TheVariants.{Body, Show}
+use Rattle.ilspy_cli.proofs.OneName.{one_name}
+use Rattle.ilspy_cli.proofs.SameDue.{SameDue}
+use Rattle.ilspy_cli.proofs.OneShow.{one_of_show}
 use Rattle.ilspy_cli.specs.Lines.{too_big_line, fault_line}
 use Rattle.ilspy_cli.specs.Flat.{flat_of}
 use Rattle.ilspy_cli.specs.Layout.{text_of}
-use Rattle.ilspy_cli.specs.Outcome.{Names, IsBodyDue, IsOfFile, IsTooBig, IsUsage, IsDue}
-
--- the two statuses and the two texts are the same
-pub record SameDue (s s' : Status) (t t' : List ℕ) : Type 0 where
-  pub status : s ≡ s'
-  pub text : t ≡ t'
-
--- words in form name one file
-one_name : (words : List (List ℕ)) (a b : List ℕ) → AreWordsInForm words a → AreWordsInForm words b → a ≡ b
-one_name [] a b p q = absurd p
-one_name (x ∷ []) a b p q = absurd p
-one_name (x ∷ y ∷ []) a b p q = absurd p
-one_name (x ∷ y ∷ z ∷ []) a b p q = sym p.1 ∙ q.1
-one_name (x ∷ y ∷ z ∷ w ∷ ws) a b p q = absurd p
+use Rattle.ilspy_cli.specs.Outcome.{limit_of, Names, IsBodyDue, IsFileDue, IsOfFile, IsTooBig, IsUsage, IsDue}
 
 -- a file has one due text
 one_of_body : (file : List ℕ) (s s' : Status) (t t' : List ℕ) → IsBodyDue file s t → IsBodyDue file s' t' → SameDue s s' t t'
@@ -45,6 +36,11 @@ one_of_body file WriteFault s' t t' p q = absurd p
 one_of_body file NoMemory s' t t' p q = absurd p
 one_of_body file No s' t t' p q = absurd p
 
+-- a file has one due text, by the command
+one_of_file : (asked : Command) (file : List ℕ) (s s' : Status) (t t' : List ℕ) → IsFileDue asked file s t → IsFileDue asked file s' t' → SameDue s s' t t'
+one_of_file Body file s s' t t' p q = one_of_body file s s' t t' p q
+one_of_file Show file s s' t t' p q = one_of_show file s s' t t' p q
+
 module _ (files : List ℕ → Option (List ℕ)) (words : List (List ℕ)) where
   -- why a status and a text are due
   data Why (s : Status) (t : List ℕ) : Type 0 where
@@ -61,34 +57,36 @@ module _ (files : List ℕ → Option (List ℕ)) (words : List (List ℕ)) wher
   why before now last NoMemory t h p = absurd p
   why before now last No t h p = absurd p
 
-  -- one file is named
-  one_file : (a b : List ℕ) → Names (Some files) words a → Names (Some files) words b → a ≡ b
+  -- one file is named, by one command
+  one_file : (a b : List ℕ) (p : Names (Some files) words a) (q : Names (Some files) words b) → (p.asked ≡ q.asked) × (a ≡ b)
   one_file a b p q =
-      let same = one_name words p.name q.name p.words_in_form q.words_in_form in
-      let e : Some a ≡ Some b = sym p.is_file ∙ ap files same ∙ q.is_file in
-      cc
+      let same = one_name words p.asked q.asked p.name q.name p.words_in_form q.words_in_form in
+      let e : Some a ≡ Some b = sym p.is_file ∙ ap files same.name ∙ q.is_file in
+      (same.command, cc)
 
   -- a file is too long or not
   not_both : (a t : List ℕ) → Names (Some files) words a → IsTooBig (Some files) words t → ⊥
   not_both a t p q =
-      let same = one_name words p.name q.name p.words_in_form q.words_in_form in
-      let e : Some (length a) ≡ Some q.bytes = sym (ap (option_map length) p.is_file) ∙ ap (λ n. option_map length (files n)) same ∙ q.is_length in
+      let same = one_name words p.asked q.asked p.name q.name p.words_in_form q.words_in_form in
+      let e : Some (length a) ≡ Some q.bytes = sym (ap (option_map length) p.is_file) ∙ ap (λ n. option_map length (files n)) same.name ∙ q.is_length in
       let n : length a ≡ q.bytes = cc in
+      let l : limit_of p.asked ≡ limit_of q.asked = ap limit_of same.command in
       omega (arith, p.short, q.long)
 
   same_why : (s s' : Status) (t t' : List ℕ) → Why s t → Why s' t' → SameDue s s' t t'
   same_why s s' t t' (of_file p) (of_file q) =
-      one_of_body q.file s s' t t' (subst (λ f. IsBodyDue f s t) (one_file p.file q.file p.named q.named) p.due) q.due
+      let same = one_file p.file q.file p.named q.named in
+      one_of_file q.named.asked q.file s s' t t' (subst (λ a. IsFileDue a q.file s t) same.0 (subst (λ f. IsFileDue p.named.asked f s t) same.1 p.due)) q.due
   same_why s s' t t' (of_file p) (too_big e q) = absurd (not_both p.file t' p.named q)
-  same_why s s' t t' (of_file p) (usage e q) = absurd (q.out_of_form p.named.name p.named.words_in_form)
+  same_why s s' t t' (of_file p) (usage e q) = absurd (q.out_of_form p.named.asked p.named.name p.named.words_in_form)
   same_why s s' t t' (too_big e p) (of_file q) = absurd (not_both q.file t q.named p)
   same_why s s' t t' (too_big e p) (too_big f q) = record {
     status = e ∙ sym f;
-    text = p.due ∙ ap too_big_line (one_name words p.name q.name p.words_in_form q.words_in_form) ∙ sym q.due;
+    text = p.due ∙ ap too_big_line (one_name words p.asked q.asked p.name q.name p.words_in_form q.words_in_form).name ∙ sym q.due;
   }
-  same_why s s' t t' (too_big e p) (usage f q) = absurd (q.out_of_form p.name p.words_in_form)
-  same_why s s' t t' (usage e p) (of_file q) = absurd (p.out_of_form q.named.name q.named.words_in_form)
-  same_why s s' t t' (usage e p) (too_big f q) = absurd (p.out_of_form q.name q.words_in_form)
+  same_why s s' t t' (too_big e p) (usage f q) = absurd (q.out_of_form p.asked p.name p.words_in_form)
+  same_why s s' t t' (usage e p) (of_file q) = absurd (p.out_of_form q.named.asked q.named.name q.named.words_in_form)
+  same_why s s' t t' (usage e p) (too_big f q) = absurd (p.out_of_form q.asked q.name q.words_in_form)
   same_why s s' t t' (usage e p) (usage f q) = record { status = e ∙ sym f; text = p.due ∙ sym q.due }
 
 -- one status and one text are due

@@ -6,15 +6,20 @@ use Rattle.cil_body.specs.Lone.{IsLone, IsLoneFault}
 use Rattle.dc_base.specs.Outside.{HasRisen, IsFile, IsFileLength}
 use Rattle.ilspy_cli.specs.declared.status.Status.{Status}
 use Rattle.ilspy_cli.specs.declared.status.Status.TheVariants.{Done, Refused, Usage, ReadFault, WriteFault, NoMemory, No}
+use Rattle.ilspy_cli.specs.declared.words.Command.{Command}
+use Rattle.ilspy_cli.specs.declared.words.Command.TheVariants.{Body, Show}
+use Rattle.ilspy_cli.specs.declared.answer.TheConstants.{BODY_LIMIT, ASSEMBLY_LIMIT}
 use Rattle.ilspy_cli.specs.Words.{AreWordsInForm}
+use Rattle.ilspy_cli.specs.Show.{IsShowDue}
 use Rattle.ilspy_cli.specs.Lines.{usage_line, cannot_read_line, too_big_line, fault_line}
 use Rattle.ilspy_cli.specs.Flat.{flat_of}
 use Rattle.ilspy_cli.specs.Layout.{text_of}
 use Rattle.ilspy_cli.specs.Theorem.{LoneBodyMeansTheSame}
 
--- the most bytes that a lone body's file may have
-abbrev pub limit : ℕ
-limit = 64
+-- the most bytes that the file of a command may have
+abbrev pub limit_of : Command → ℕ
+limit_of Body = BODY_LIMIT
+limit_of Show = ASSEMBLY_LIMIT
 
 -- what a shelf tells of its files
 abbrev pub Files : Type 0
@@ -22,10 +27,11 @@ Files = Option (List ℕ → Option (List ℕ))
 
 -- the words name a file with these bytes, where the shelf tells them, and there aren't too many
 pub record Names (files : Files) (words : List (List ℕ)) (file : List ℕ) : Type 0 where
+  pub asked : Command
   pub name : List ℕ
-  pub words_in_form : AreWordsInForm words name
+  pub words_in_form : AreWordsInForm words asked name
   pub is_file : IsFile files name file
-  pub short : length file ≤ limit
+  pub short : length file ≤ limit_of asked
 
 -- what is due for a file with these bytes: the text of a lone body, or the line of its fault
 abbrev pub IsBodyDue : List ℕ → Status → List ℕ → Type 0
@@ -37,30 +43,37 @@ IsBodyDue file WriteFault text = ⊥
 IsBodyDue file NoMemory text = ⊥
 IsBodyDue file No text = ⊥
 
+-- what is due for a file, by the command
+abbrev pub IsFileDue : Command → List ℕ → Status → List ℕ → Type 0
+IsFileDue Body file status text = IsBodyDue file status text
+IsFileDue Show file status text = IsShowDue file status text
+
 -- the words name a file that isn't too long, and this is due for it
 pub record IsOfFile (files : Files) (words : List (List ℕ)) (status : Status) (text : List ℕ) : Type 0 where
   pub file : List ℕ
   pub named : Names files words file
-  pub due : IsBodyDue file status text
+  pub due : IsFileDue named.asked file status text
 
 -- the line of a file that is longer than the limit
 pub record IsTooBig (files : Files) (words : List (List ℕ)) (text : List ℕ) : Type 0 where
+  pub asked : Command
   pub name : List ℕ
-  pub words_in_form : AreWordsInForm words name
+  pub words_in_form : AreWordsInForm words asked name
   pub bytes : ℕ
-  pub long : limit < bytes
+  pub long : limit_of asked < bytes
   pub is_length : IsFileLength files name bytes
   pub due : text ≡ too_big_line name
 
 -- the line of words that are out of form
 pub record IsUsage (words : List (List ℕ)) (text : List ℕ) : Type 0 where
-  pub out_of_form : (name : List ℕ) → AreWordsInForm words name → ⊥
+  pub out_of_form : (asked : Command) (name : List ℕ) → AreWordsInForm words asked name → ⊥
   pub due : text ≡ usage_line
 
 -- the line of a file that can't be read: the shelf has counted a fault in this call, and names the file as the last that failed
 pub record IsUnread (before now : ℕ) (last : Option (List ℕ)) (words : List (List ℕ)) (text : List ℕ) : Type 0 where
+  pub asked : Command
   pub name : List ℕ
-  pub words_in_form : AreWordsInForm words name
+  pub words_in_form : AreWordsInForm words asked name
   pub risen : HasRisen before now
   pub is_last : last ≡ Some name
   pub due : text ≡ cannot_read_line name
@@ -94,16 +107,16 @@ pub record IsWritten (old new : Option (List ℕ)) (before now : ℕ) (text : Li
   pub unfailed : now ≡ before
 
 -- what is written means what the named file's code means
-pub record WroteTheSame (files : Files) (words : List (List ℕ)) (old new : Option (List ℕ)) : Type 0 where
+pub record WroteTheSame (files : Files) (name : List ℕ) (old new : Option (List ℕ)) : Type 0 where
   pub file : List ℕ
-  pub named : Names files words file
+  pub is_file : IsFile files name file
   pub text : List ℕ
   pub adds : Adds old new text
   pub same : LoneBodyMeansTheSame file text
 
--- of a run that ended well, what was written means what the named file's code means
+-- of a `body` that ended well, what was written means what the named file's code means
 abbrev pub MeansTheSame : Files → List (List ℕ) → Option (List ℕ) → Option (List ℕ) → Status → Type 0
-MeansTheSame files words old new Done = WroteTheSame files words old new
+MeansTheSame files words old new Done = (name : List ℕ) → AreWordsInForm words Body name → WroteTheSame files name old new
 MeansTheSame files words old new _ = Unit {0}
 
 -- neither the shelf nor the sink has counted a fault

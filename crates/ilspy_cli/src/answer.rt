@@ -1,10 +1,11 @@
 // What is due for some words.
 
 ghost use Rattle.std.specs.Prelude.{◌≡◌, ◌≤◌, length, IfOk};
-ghost use Rattle.ilspy_cli.specs.Outcome.{IsDue, IsBodyDue};
+ghost use Rattle.ilspy_cli.specs.Outcome.{IsDue, IsFileDue, IsBodyDue, limit_of};
 
 use crate::flat_form::flat;
-use crate::words::file_named;
+use crate::shown::show;
+use crate::words::{Command, asked};
 use crate::{Status, layout, lines};
 use cil_body::lone;
 use dc_base::{NoMemory, Or, Shelf, TakeFault, Text};
@@ -12,6 +13,9 @@ use std::alloc::Global;
 
 /// The most bytes that the file of a lone body may have.
 pub const BODY_LIMIT: u64 = 64;
+
+/// The most bytes that an assembly may have.
+pub const ASSEMBLY_LIMIT: u64 = 16_777_216;
 
 /// A status, and the text or the line that is due with it.
 #[derive(Debug, Drop)]
@@ -30,27 +34,46 @@ pub(crate) fn answer_words<S: Shelf>(
     ensures never_falls { S.faults shelf.old ≤ S.faults shelf.new }
     ensures files { S.files shelf.new ≡ S.files shelf.old }
 {
-    let Some(name) = file_named(words) else {
+    let Some((command, name)) = asked(alloc, words)? else {
         return Ok(Answer {
             status: Status::Usage,
             text: lines::usage(alloc)?,
         });
     };
-    match shelf.take(alloc, name, BODY_LIMIT) {
-        Ok(file) => answer_file(alloc, file.as_slice()),
+    match shelf.take(alloc, &name, limit_of(command)) {
+        Ok(file) => answer_file(alloc, command, file.as_slice()),
         Err(Or::NoMemory) => Err(NoMemory),
         Err(Or::Fault(TakeFault::Longer(_))) => Ok(Answer {
             status: Status::Refused,
-            text: lines::too_big(alloc, name)?,
+            text: lines::too_big(alloc, &name)?,
         }),
         Err(Or::Fault(TakeFault::Failed)) => Ok(Answer {
             status: Status::ReadFault,
-            text: lines::cannot_read(alloc, name)?,
+            text: lines::cannot_read(alloc, &name)?,
         }),
     }
 }
 
-fn answer_file(alloc: Global, file: &[u8]) -> Result<Answer, NoMemory>
+fn limit_of(command: Command) -> u64
+    ensures { result ≡ limit_of command }
+{
+    match command {
+        Command::Body => BODY_LIMIT,
+        Command::Show => ASSEMBLY_LIMIT,
+    }
+}
+
+fn answer_file(alloc: Global, command: Command, file: &[u8]) -> Result<Answer, NoMemory>
+    requires { length file.now ≤ limit_of command }
+    ensures { IfOk result (λ answer. IsFileDue command file.now answer.status answer.text) }
+{
+    match command {
+        Command::Body => answer_body(alloc, file),
+        Command::Show => show(alloc, file),
+    }
+}
+
+fn answer_body(alloc: Global, file: &[u8]) -> Result<Answer, NoMemory>
     requires { length file.now ≤ 64 }
     ensures { IfOk result (λ answer. IsBodyDue file.now answer.status answer.text) }
 {

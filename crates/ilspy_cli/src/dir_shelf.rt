@@ -10,7 +10,7 @@ use std::io::{self, Read};
 use std::rt::Files;
 
 /// How many bytes are asked of a file at once.
-const CHUNK: usize = 4096;
+const CHUNK: usize = 65_536;
 
 /// The files of the system, by their paths. It tells no content.
 #[derive(Drop)]
@@ -83,7 +83,7 @@ fn read_front<R: Files>(rt: &R, alloc: Global, path: &str, limit: u64) -> io::Re
 
 // How many bytes to ask for, where `len` are read: none once the limit is passed.
 fn wanted(len: usize, limit: u64) -> usize
-    ensures { result ≤ 4096 }
+    ensures { result ≤ 65536 }
 {
     let len = len as u64;
     if len > limit {

@@ -3,6 +3,7 @@
 
 mod answer;
 mod dir_shelf;
+mod escape;
 mod flat_form;
 mod layout;
 mod lines;
@@ -11,6 +12,7 @@ mod out_sink;
 mod program;
 mod put;
 mod reading;
+mod shown;
 mod status;
 mod words;
 

@@ -13,8 +13,8 @@ use std::thread::Threads;
 
 /// Runs the program on the words of its command line, the program's name first.
 ///
-/// `body FILE` writes the method of the file's lone body. All text is made before the first byte is put, so want of memory
-/// leaves the sink as it was. Pieces of at most 4,096 bytes are put, and again what a put didn't take.
+/// `body FILE` writes the method of the file's lone body, `show ASM` the assembly's name and the counts of its types,
+/// fields, methods and properties. All text is made before the first byte is put, so want of memory leaves the sink as it was. Pieces of at most 4,096 bytes are put, and again what a put didn't take.
 pub fn run<R: Threads + Sync, S: Shelf, K: Sink, G: Gate + Sync>(
     _rt: &R,
     alloc: Global,
@@ -27,7 +27,7 @@ pub fn run<R: Threads + Sync, S: Shelf, K: Sink, G: Gate + Sync>(
     ensures outcome { IsOutcome (IsDue (S.files shelf.old) (S.faults shelf.old) (S.faults shelf.new) (S.last shelf.new) words.now)
         (K.written out.old) (K.written out.new) (K.faults out.old) (K.faults out.new) result }
 
-    // The theorem: the text that is written for a lone body means what the body's bytes mean.
+    // The theorem: the text that `body` writes means what the file's bytes mean.
     ensures means_the_same { MeansTheSame (S.files shelf.old) words.now (K.written out.old) (K.written out.new) result }
 
     // Where the outside counts no fault, what is due is what is written, want of memory aside.

@@ -17,6 +17,9 @@ pub(crate) const SUM: [u8; 5] = [0x12, 0x02, 0x03, 0x58, 0x2A];
 pub(crate) const SUM_TEXT: &str =
     "static int M(int a0, int a1, int a2, int a3)\n{\n    int v0 = a0;\n    int v1 = a1;\n    int v2 = v0 + v1;\n    return v2;\n}\n";
 
+const USAGE: &str =
+    "usage: ilspy body FILE | show ASM | verify ASM REFS | decompile ASM REFS [--workers N] | check ASM REFS SOURCE | make SEED METHODS\n";
+
 /// The words of a command line.
 pub(crate) fn words_of(alloc: Global, words: &[&str]) -> Result<Vec<Text>, NoMemory> {
     let mut all = Vec::new(alloc);
@@ -33,8 +36,8 @@ pub(crate) fn shelf_of(alloc: Global, file: &[u8], fails: &[u32]) -> Result<MemS
     Ok(MemShelf::of(files, Vec::from_slice(alloc, fails)?))
 }
 
-// Runs on the words over that shelf, and compares the status and what is written.
-fn check<R: Threads + Sync + Abort>(
+/// Runs on the words over that shelf, and compares the status and what is written.
+pub(crate) fn check<R: Threads + Sync + Abort>(
     rt: &R,
     alloc: Global,
     words: &[&str],
@@ -115,34 +118,26 @@ fn a_file_that_is_no_lone_body_is_refused(rt: HostRuntime) -> Result<(), Fail> {
 #[test]
 fn words_out_of_form_are_answered_by_the_usage(rt: HostRuntime) -> Result<(), Fail> {
     let alloc = rt.alloc();
-    let lines: [&[&str]; 7] = [
+    let lines: [&[&str]; 8] = [
         &[],
         &["ilspy"],
         &["ilspy", "body"],
-        &["ilspy", "body", ""],
         &["ilspy", "body", "-f"],
-        &["ilspy", "show", "f"],
         &["ilspy", "body", "f", "f"],
+        &["ilspy", "show"],
+        &["ilspy", "show", "a", "b"],
+        &["ilspy", "verify", "shop.dll"],
     ];
     for words in lines {
-        check(
-            &rt,
-            alloc,
-            words,
-            &SUM,
-            Status::Usage,
-            "usage: ilspy body FILE\n",
-        )?;
+        check(&rt, alloc, words, &SUM, Status::Usage, USAGE)?;
     }
-    let missing = ["ilspy", "body", "g"];
-    check(
-        &rt,
-        alloc,
-        &missing,
-        &SUM,
-        Status::ReadFault,
-        "fault: cannot read g\n",
-    )?;
+    let missing: [(&[&str], &str); 2] = [
+        (&["ilspy", "body", "g"], "fault: cannot read g\n"),
+        (&["ilspy", "show", ""], "fault: cannot read \n"),
+    ];
+    for (words, line) in missing {
+        check(&rt, alloc, words, &SUM, Status::ReadFault, line)?;
+    }
     Ok(())
 }
 

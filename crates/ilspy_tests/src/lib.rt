@@ -5,3 +5,5 @@
 mod body;
 #[cfg(test)]
 mod outside;
+#[cfg(test)]
+mod show;

@@ -3,7 +3,7 @@ use Rattle.std.proofs.Common.{arith}
 use Rattle.cil_body.proofs.Above.{IsLone-operand}
 use Rattle.cil_body.proofs.Reading.{IsLone-consecutive}
 use Rattle.ilspy_cli.proofs.CilRuns.{consecutive_length}
-use Rattle.ilspy_cli.proofs.answer.answer_file.Goals as goal
+use Rattle.ilspy_cli.proofs.answer.answer_body.Goals as goal
 
 pub flat-requires-clause-short : goal.flat-requires-clause-short
 flat-requires-clause-short c =

@@ -1,0 +1,27 @@
+-- Why an assembly isn't shown.
+use Rattle.std.proofs.Common.{ap, ◌∙◌, sym}
+use Rattle.pe_image.specs.Sections.{bytes_in}
+use Rattle.cli_metadata.specs.Metadata.{metadata_of}
+use Rattle.ilspy_cli.specs.Show.{bad_image, bad_metadata, bad_name}
+use Rattle.ilspy_cli.proofs.shown.show.Goals as goal
+
+pub returns-in-Err : goal.returns-in-Err
+returns-in-Err c = rw c.refused.ensures (bad_image c.in-Err.fault c.in-Err.ensures.fault c.in_ok-bad_image-in-Err.ensures)
+
+pub returns-in-Err-of : goal.returns-in-Err-of
+returns-in-Err-of c =
+    let image = c.in-Ok.image in
+    let same = c.metadata.ensures.bytes ∙ ap (λ f. bytes_in f image.metadata) c.in-Ok.ensures.file in
+    rw c.refused-in-Err-of.ensures
+    (bad_metadata c.in-Err-of.fault
+    (record { sections = image.sections; metadata = image.metadata; image = c.in-Ok.ensures.read; fails = sym (c.in-Err-of.ensures ∙ ap metadata_of same) })
+    c.in_ok-bad_metadata-in-Err-of.ensures)
+
+pub returns-in_ok-bad_name-in-Err-assembly_name : goal.returns-in_ok-bad_name-in-Err-assembly_name
+returns-in_ok-bad_name-in-Err-assembly_name c =
+    let image = c.in-Ok.image in
+    let same = c.metadata.ensures.bytes ∙ ap (λ f. bytes_in f image.metadata) c.in-Ok.ensures.file in
+    rw c.refused-in-Err-assembly_name.ensures
+    (bad_name c.in-Ok-of.metadata c.in-Err-assembly_name.cause
+    (record { sections = image.sections; metadata = image.metadata; image = c.in-Ok.ensures.read; reads = sym (c.in-Ok-of.ensures ∙ ap metadata_of same) })
+    c.in-Err-assembly_name.ensures c.in_ok-bad_name-in-Err-assembly_name.ensures)
