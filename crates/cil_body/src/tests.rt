@@ -76,68 +76,24 @@ fn fault(cause: BodyCause, at: u32) -> Result<(Simple, usize), BodyFault> {
     Err(BodyFault { cause, at })
 }
 
+fn at(place: u32, op: Op, arg: i64) -> (u32, Simple) {
+    (place, Simple { op, arg })
+}
+
 #[test]
 fn a_lone_body_is_its_instructions(rt: HostRuntime) -> Result<(), Fail> {
     let sum = [
-        (
-            1,
-            Simple {
-                op: Op::Ldarg0,
-                arg: 0,
-            },
-        ),
-        (
-            2,
-            Simple {
-                op: Op::Ldarg1,
-                arg: 0,
-            },
-        ),
-        (
-            3,
-            Simple {
-                op: Op::Add,
-                arg: 0,
-            },
-        ),
-        (
-            4,
-            Simple {
-                op: Op::Ret,
-                arg: 0,
-            },
-        ),
+        at(1, Op::Ldarg0, 0),
+        at(2, Op::Ldarg1, 0),
+        at(3, Op::Add, 0),
+        at(4, Op::Ret, 0),
     ];
     assert!(rt; reads(rt.alloc(), &[0x12, 0x02, 0x03, 0x58, 0x2A], &sum)?);
     let numbers = [
-        (
-            1,
-            Simple {
-                op: Op::LdcI4S,
-                arg: -1,
-            },
-        ),
-        (
-            3,
-            Simple {
-                op: Op::LdcI4,
-                arg: 256,
-            },
-        ),
-        (
-            8,
-            Simple {
-                op: Op::Mul,
-                arg: 0,
-            },
-        ),
-        (
-            9,
-            Simple {
-                op: Op::Ret,
-                arg: 0,
-            },
-        ),
+        at(1, Op::LdcI4S, -1),
+        at(3, Op::LdcI4, 256),
+        at(8, Op::Mul, 0),
+        at(9, Op::Ret, 0),
     ];
     let file = [0x26, 0x1F, 0xFF, 0x20, 0x00, 0x01, 0x00, 0x00, 0x5A, 0x2A];
     assert!(rt; reads(rt.alloc(), &file, &numbers)?);
@@ -152,68 +108,26 @@ fn reads(alloc: Global, file: &[u8], code: &[(u32, Simple)]) -> Result<bool, Or<
 
 #[test]
 fn a_file_that_is_no_lone_body_has_its_fault(rt: HostRuntime) {
-    refuses(&rt, rt.alloc(), &[], LoneFault::BadHeader(0));
-    refuses(
-        &rt,
-        rt.alloc(),
-        &[0x13, 0x02, 0x03, 0x58, 0x2A],
-        LoneFault::BadHeader(0),
-    );
-    refuses(&rt, rt.alloc(), &[0x02, 0x2A], LoneFault::BadHeader(0));
-    refuses(
-        &rt,
-        rt.alloc(),
-        &[0x12, 0x02, 0x03, 0x58],
-        LoneFault::Truncated(4),
-    );
-    refuses(
-        &rt,
-        rt.alloc(),
-        &[0x0E, 0x02, 0x20, 0x2A],
-        LoneFault::Truncated(2),
-    );
-    refuses(
-        &rt,
-        rt.alloc(),
-        &[0x0E, 0x02, 0x5B, 0x2A],
-        LoneFault::NotYet(0x5B, 2),
-    );
-    refuses(
-        &rt,
-        rt.alloc(),
-        &[0x0E, 0x58, 0x5B, 0x2A],
-        LoneFault::NotYet(0x5B, 2),
-    );
-    refuses(
-        &rt,
-        rt.alloc(),
-        &[0x0A, 0x58, 0x2A],
-        LoneFault::Underflow(1),
-    );
-    refuses(
-        &rt,
-        rt.alloc(),
-        &[0x0A, 0x02, 0x03],
-        LoneFault::BadReturn(3),
-    );
-    refuses(
-        &rt,
-        rt.alloc(),
-        &[0x0E, 0x02, 0x03, 0x2A],
-        LoneFault::BadReturn(3),
-    );
-    refuses(
-        &rt,
-        rt.alloc(),
-        &[0x0E, 0x02, 0x2A, 0x58],
-        LoneFault::BadReturn(2),
-    );
-    refuses(
-        &rt,
-        rt.alloc(),
-        &[0x0A, 0x02, 0x2A, 0x00],
-        LoneFault::Trailing(3),
-    );
+    let header = LoneFault::BadHeader(0);
+    refuses(&rt, rt.alloc(), &[], header);
+    refuses(&rt, rt.alloc(), &[0x13, 0x02, 0x03, 0x58, 0x2A], header);
+    refuses(&rt, rt.alloc(), &[0x02, 0x2A], header);
+    let cut = LoneFault::Truncated(4);
+    refuses(&rt, rt.alloc(), &[0x12, 0x02, 0x03, 0x58], cut);
+    let cut = LoneFault::Truncated(2);
+    refuses(&rt, rt.alloc(), &[0x0E, 0x02, 0x20, 0x2A], cut);
+    let division = LoneFault::NotYet(0x5B, 2);
+    refuses(&rt, rt.alloc(), &[0x0E, 0x02, 0x5B, 0x2A], division);
+    refuses(&rt, rt.alloc(), &[0x0E, 0x58, 0x5B, 0x2A], division);
+    let few = LoneFault::Underflow(1);
+    refuses(&rt, rt.alloc(), &[0x0A, 0x58, 0x2A], few);
+    let end = LoneFault::BadReturn(3);
+    refuses(&rt, rt.alloc(), &[0x0A, 0x02, 0x03], end);
+    refuses(&rt, rt.alloc(), &[0x0E, 0x02, 0x03, 0x2A], end);
+    let early = LoneFault::BadReturn(2);
+    refuses(&rt, rt.alloc(), &[0x0E, 0x02, 0x2A, 0x58], early);
+    let behind = LoneFault::Trailing(3);
+    refuses(&rt, rt.alloc(), &[0x0A, 0x02, 0x2A, 0x00], behind);
 }
 
 fn refuses(rt: &impl Abort, alloc: Global, file: &[u8], fault: LoneFault)

@@ -16,7 +16,7 @@ use Rattle.cli_signature.specs.declared.raw.SigFault.TheVariants.{BadElement}
 use Rattle.cli_signature.specs.Reading.{Begins, Stops, IsNotDue, IsFaultAt, IsNumber, IsNumberWord, IsNumberStop, BeginsWithNoSuch, top_of as top}
 use Rattle.cli_signature.proofs.Trees.{begins_from_split}
 
--- bytes from E0 on are no element
+-- bytes from 0xE0 on are no element
 low : Element → Bool
 low e = nat_lt e.byte 224
 
