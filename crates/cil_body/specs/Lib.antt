@@ -1,5 +1,12 @@
 pub mod Opcode
 pub mod Instruction
+pub mod Number
+pub mod First
+pub mod Header
+pub mod Code
+pub mod Section
+pub mod Body
+pub mod Region
 pub mod Cut
 pub mod Lone
 pub mod Laws

@@ -3,16 +3,14 @@ use Rattle.std.specs.Prelude.{◌≡◌, ◌≢◌, ◌⊎◌, ℕ, ◌+◌, ◌
 use Rattle.dc_base.specs.declared.failure.Or.{Or}
 use Rattle.dc_base.specs.declared.failure.Or.TheVariants.{NoMemory, Fault}
 use Rattle.cil_body.specs.declared.opcode.Row.{Row}
-use Rattle.cil_body.specs.declared.opcode.Row.TheVariants.{Load, Binary, Return}
+use Rattle.cil_body.specs.declared.opcode.Row.TheVariants.{Load, Binary, Return, Beyond}
 use Rattle.cil_body.specs.declared.instruction.Simple.{Simple}
-use Rattle.cil_body.specs.declared.instruction.BodyFault.{BodyFault}
-use Rattle.cil_body.specs.declared.instruction.BodyCause.{BodyCause}
-use Rattle.cil_body.specs.declared.instruction.BodyCause.TheVariants.{NotYet as NotYetHere, Truncated as TruncatedHere}
+use Rattle.cil_body.specs.declared.standalone.Stop.{Stop}
+use Rattle.cil_body.specs.declared.standalone.Stop.TheVariants.{NotYet as NotYetHere, Truncated as TruncatedHere}
 use Rattle.cil_body.specs.declared.standalone.LoneFault.{LoneFault}
 use Rattle.cil_body.specs.declared.standalone.LoneFault.TheVariants.{BadHeader, Truncated, NotYet, Underflow, BadReturn, Trailing}
 use Rattle.cil_body.specs.Opcode.{row_of}
-use Rattle.cil_body.specs.Instruction.{instruction_at}
-use Rattle.cil_body.specs.Cut.{Placed, Cuts}
+use Rattle.cil_body.specs.Cut.{Placed, Cuts, lone_at}
 
 -- A tiny header is one byte: 2 in the low two bits, and above them how many bytes of code follow, at least one.
 abbrev pub HasHeader : List ℕ → ℕ → Type 0
@@ -36,6 +34,7 @@ abbrev pub depth_after : ℕ → Row → ℕ
 depth_after depth (Load source) = depth + 1
 depth_after depth (Binary two) = depth - 1
 depth_after depth Return = depth - 1
+depth_after depth Beyond = depth
 
 -- the slots on the stack after these instructions
 abbrev pub depth_of : ℕ → List Placed → ℕ
@@ -123,20 +122,17 @@ abbrev pub IsLoneFault : List ℕ → LoneFault → Type 0
 IsLoneFault file (BadHeader place) = (place ≡ 0) × ((size : ℕ) → HasHeader file size → ⊥)
 IsLoneFault file (Truncated place) =
     ((size : ℕ) × HasHeader file size × (length file < size + 1) × (place ≡ length file))
-    ⊎ ((bytes : List ℕ) × Stops file place bytes × (instruction_at bytes ≡ Err TruncatedHere))
-IsLoneFault file (NotYet byte place) = (bytes : List ℕ) × Stops file place bytes × (instruction_at bytes ≡ Err (NotYetHere byte))
+    ⊎ ((bytes : List ℕ) × Stops file place bytes × (lone_at bytes ≡ Err TruncatedHere))
+IsLoneFault file (NotYet byte place) = (bytes : List ℕ) × Stops file place bytes × (lone_at bytes ≡ Err (NotYetHere byte))
 IsLoneFault file (Underflow place) = (at : Reaches file place) × Underflows at.code place
 IsLoneFault file (BadReturn place) = (at : Reaches file place) × IsBadReturn at.code (at.size + 1) place
 IsLoneFault file (Trailing place) =
     (size : ℕ) × (code : List Placed) × IsCut file size code × IsBalanced code (size + 1) × (place ≡ size + 1) × (place < length file)
 
--- the fault of a file whose cut stops
-abbrev pub stop_of : BodyCause → ℕ → Or LoneFault
-stop_of (NotYetHere byte) place = Fault (NotYet byte place)
-stop_of TruncatedHere place = Fault (Truncated place)
-
-abbrev pub fault_of : BodyFault → Or LoneFault
-fault_of fault = stop_of fault.cause fault.at
+-- the fault of a file whose cut stops at this place
+abbrev pub stop_of : Stop → ℕ → LoneFault
+stop_of (NotYetHere byte) place = NotYet byte place
+stop_of TruncatedHere place = Truncated place
 
 -- the fault of a call, unless it wanted memory
 abbrev pub IsRefused : List ℕ → Or LoneFault → Type 0
@@ -149,6 +145,7 @@ abbrev pub DoesItsPart : Row → ℕ → List Placed → Type 0 → Type 0
 DoesItsPart (Load source) depth code goes_on = goes_on
 DoesItsPart (Binary two) depth code goes_on = (2 ≤ depth) × goes_on
 DoesItsPart Return depth code goes_on = (depth ≡ 1) × (code ≡ [])
+DoesItsPart Beyond depth code goes_on = ⊥
 
 -- begun on a stack of `depth` slots, the code runs to its last instruction, a ret that finds one slot, and each
 -- operator before it finds two

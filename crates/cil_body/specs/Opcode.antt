@@ -1,33 +1,48 @@
--- The instructions, by what they do and by their operands.
-use Rattle.std.specs.Prelude.{◌≡◌, ℕ, ◌+◌, Option, Some, ◌==◌, pos, negsuc, find}
+-- The instructions: their opcodes and operands, and what those of a lone body do.
+use Rattle.std.specs.Prelude.{◌≡◌, ℕ, List, Bool, Option, Some, None, ◌==◌, pos, negsuc, find, Contains}
+use Rattle.std.specs.List.{list_any}
 use Rattle.cil_body.specs.declared.opcode.Op.{Op}
 use Rattle.cil_body.specs.declared.opcode.Op.TheVariants.{Ldarg0, Ldarg1, Ldarg2, Ldarg3, LdcI4M1, LdcI40, LdcI41, LdcI42, LdcI43, LdcI44, LdcI45, LdcI46, LdcI47, LdcI48, LdcI4S, LdcI4, Add as AddOp, Sub as SubOp, Mul as MulOp, Ret}
 use Rattle.cil_body.specs.declared.opcode.Operand.{Operand}
-use Rattle.cil_body.specs.declared.opcode.Operand.TheVariants.{Absent, Int8, Int32}
+use Rattle.cil_body.specs.declared.opcode.Operand.TheVariants.{Absent, Var8, Var16, Int8, Int32, Int64, Token, Target8, Target32, Switch}
 use Rattle.cil_body.specs.declared.opcode.Row.{Row}
-use Rattle.cil_body.specs.declared.opcode.Row.TheVariants.{Load, Binary, Return}
+use Rattle.cil_body.specs.declared.opcode.Row.TheVariants.{Load, Binary, Return, Beyond}
 use Rattle.cil_body.specs.declared.opcode.Source.TheVariants.{Argument, Number, Operand as FromOperand}
 use Rattle.cil_body.specs.declared.opcode.Two.TheVariants.{Add, Sub, Mul}
-use Rattle.cil_body.specs.declared.opcode.Entry.{Entry}
-use Rattle.cil_body.specs.declared.opcode.TheConstants.{TABLE}
+use Rattle.cil_body.specs.declared.opcode.TheConstants.{TABLE, LEFT_OUT}
 
--- the bytes of an operand
+-- a line of the table: an opcode, its mnemonic and the kind of its operand
+abbrev pub Line : Type 0
+Line = ℕ × Op × Operand
+
+-- the bytes of an operand, without the cases of a switch
 abbrev pub operand_len : Operand → ℕ
 operand_len Absent = 0
+operand_len Var8 = 1
+operand_len Var16 = 2
 operand_len Int8 = 1
 operand_len Int32 = 4
+operand_len Int64 = 8
+operand_len Token = 4
+operand_len Target8 = 1
+operand_len Target32 = 4
+operand_len Switch = 4
 
--- what follows an instruction's opcode (ECMA-335 III.3.40): only the long forms of ldc.i4 have an operand
-abbrev pub operand_of : Op → Operand
-operand_of LdcI4S = Int8
-operand_of LdcI4 = Int32
-operand_of _ = Absent
+-- the table's line for an opcode, if it has one
+abbrev pub entry_of : ℕ → Option Line
+entry_of code = find (λ e. e.0 == code) TABLE
 
--- the bytes of an instruction: its opcode and its operand
+-- the standard has the opcode, but it isn't taken
+abbrev pub is_left_out : ℕ → Bool
+is_left_out code = list_any (λ c. c == code) LEFT_OUT
+
+-- the bytes of an instruction of a lone body (ECMA-335 III.3.40): only the long forms of ldc.i4 have an operand
 abbrev pub size_of : Op → ℕ
-size_of op = 1 + operand_len (operand_of op)
+size_of LdcI4S = 2
+size_of LdcI4 = 5
+size_of _ = 1
 
--- what an instruction does (ECMA-335 III.3)
+-- what an instruction does in a lone body (ECMA-335 III.3)
 abbrev pub row_of : Op → Row
 row_of Ldarg0 = Load (Argument 0)
 row_of Ldarg1 = Load (Argument 1)
@@ -49,42 +64,12 @@ row_of AddOp = Binary Add
 row_of SubOp = Binary Sub
 row_of MulOp = Binary Mul
 row_of Ret = Return
+row_of _ = Beyond
 
--- the table's line for an opcode, if it has one
-abbrev pub entry_of : ℕ → Option Entry
-entry_of code = find (λ e. e.code == code) TABLE
-
--- the number that the standard gives an instruction (ECMA-335 III.3)
-abbrev pub opcode_of : Op → ℕ
-opcode_of Ldarg0 = 0x02
-opcode_of Ldarg1 = 0x03
-opcode_of Ldarg2 = 0x04
-opcode_of Ldarg3 = 0x05
-opcode_of LdcI4M1 = 0x15
-opcode_of LdcI40 = 0x16
-opcode_of LdcI41 = 0x17
-opcode_of LdcI42 = 0x18
-opcode_of LdcI43 = 0x19
-opcode_of LdcI44 = 0x1A
-opcode_of LdcI45 = 0x1B
-opcode_of LdcI46 = 0x1C
-opcode_of LdcI47 = 0x1D
-opcode_of LdcI48 = 0x1E
-opcode_of LdcI4S = 0x1F
-opcode_of LdcI4 = 0x20
-opcode_of AddOp = 0x58
-opcode_of SubOp = 0x59
-opcode_of MulOp = 0x5A
-opcode_of Ret = 0x2A
-
--- the table's line for an instruction
-abbrev pub line_of : Op → Entry
-line_of op = record { code = opcode_of op; op = op; operand = operand_of op }
-
--- the table has the line of each instruction, under its number
+-- each instruction has a line of the table
 abbrev pub HasEach : Type 0
-HasEach = (op : Op) → entry_of (opcode_of op) ≡ Some (line_of op)
+HasEach = (op : Op) → (code : ℕ) × (operand : Operand) × (entry_of code ≡ Some (code, op, operand))
 
--- what the table has under a number is the line of an instruction of that number
-abbrev pub HasNoOther : Type 0
-HasNoOther = (code : ℕ) (e : Entry) → entry_of code ≡ Some e → (code ≡ opcode_of e.op) × (e ≡ line_of e.op)
+-- no opcode of the table is one of those that are left out
+abbrev pub HasNoLeftOut : Type 0
+HasNoLeftOut = (code : ℕ) → Contains LEFT_OUT code → entry_of code ≡ None

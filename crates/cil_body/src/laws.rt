@@ -1,12 +1,12 @@
 // What follows from the definitions of a lone body and of the table, for the crates above.
 
-ghost use Rattle.cil_body.specs.Opcode.{HasEach, HasNoOther};
+ghost use Rattle.cil_body.specs.Opcode.{HasEach, HasNoLeftOut};
 ghost use Rattle.cil_body.specs.Laws.{HasOneCode, HasNoFault, HasOneFault, CodeWalks, OperandsFit, CodeIsConsecutive, PlacesAreWithin};
 
-/// The table is that of the standard: it has the instructions with their numbers and operands, and nothing else.
-pub fn table_is_the_standards()
+/// The table has a line for each instruction, and none for an opcode that is left out.
+pub fn table_has_each()
     ensures each { HasEach }
-    ensures no_other { HasNoOther }
+    ensures no_left_out { HasNoLeftOut }
 {}
 
 /// A file is a lone body with one code, or has one fault, and never both.

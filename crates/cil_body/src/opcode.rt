@@ -1,15 +1,31 @@
 // The instructions and their table.
 
 ghost use Rattle.std.specs.Prelude.{◌≡◌};
-ghost use Rattle.cil_body.specs.Opcode.{row_of, operand_len, operand_of, size_of};
+ghost use Rattle.cil_body.specs.Opcode.{row_of, operand_len, size_of};
 
-/// An instruction's mnemonic (ECMA-335 III.3).
+/// An instruction's mnemonic (ECMA-335 III.3 and III.4), in the order of the opcodes.
 #[derive(Clone, Copy, Debug, PartialEq, Eq)]
 pub enum Op {
+    Nop,
     Ldarg0,
     Ldarg1,
     Ldarg2,
     Ldarg3,
+    Ldloc0,
+    Ldloc1,
+    Ldloc2,
+    Ldloc3,
+    Stloc0,
+    Stloc1,
+    Stloc2,
+    Stloc3,
+    LdargS,
+    LdargaS,
+    StargS,
+    LdlocS,
+    LdlocaS,
+    StlocS,
+    Ldnull,
     LdcI4M1,
     LdcI40,
     LdcI41,
@@ -22,34 +38,183 @@ pub enum Op {
     LdcI48,
     LdcI4S,
     LdcI4,
+    LdcI8,
+    Dup,
+    Pop,
+    Call,
+    Ret,
+    BrS,
+    BrfalseS,
+    BrtrueS,
+    BeqS,
+    BgeS,
+    BgtS,
+    BleS,
+    BltS,
+    BneUnS,
+    BgeUnS,
+    BgtUnS,
+    BleUnS,
+    BltUnS,
+    Br,
+    Brfalse,
+    Brtrue,
+    Beq,
+    Bge,
+    Bgt,
+    Ble,
+    Blt,
+    BneUn,
+    BgeUn,
+    BgtUn,
+    BleUn,
+    BltUn,
+    Switch,
+    LdindI1,
+    LdindU1,
+    LdindI2,
+    LdindU2,
+    LdindI4,
+    LdindU4,
+    LdindI8,
+    LdindRef,
+    StindRef,
+    StindI1,
+    StindI2,
+    StindI4,
+    StindI8,
     Add,
     Sub,
     Mul,
-    Ret,
+    Div,
+    DivUn,
+    Rem,
+    RemUn,
+    And,
+    Or,
+    Xor,
+    Shl,
+    Shr,
+    ShrUn,
+    Neg,
+    Not,
+    ConvI1,
+    ConvI2,
+    ConvI4,
+    ConvI8,
+    ConvU4,
+    ConvU8,
+    Callvirt,
+    Ldobj,
+    Ldstr,
+    Newobj,
+    Castclass,
+    Isinst,
+    Unbox,
+    Throw,
+    Ldfld,
+    Ldflda,
+    Stfld,
+    Ldsfld,
+    Ldsflda,
+    Stsfld,
+    ConvOvfI1Un,
+    ConvOvfI2Un,
+    ConvOvfI4Un,
+    ConvOvfI8Un,
+    ConvOvfU1Un,
+    ConvOvfU2Un,
+    ConvOvfU4Un,
+    ConvOvfU8Un,
+    Box,
+    Newarr,
+    Ldlen,
+    Ldelema,
+    LdelemI1,
+    LdelemU1,
+    LdelemI2,
+    LdelemU2,
+    LdelemI4,
+    LdelemU4,
+    LdelemI8,
+    LdelemRef,
+    StelemI1,
+    StelemI2,
+    StelemI4,
+    StelemI8,
+    StelemRef,
+    Ldelem,
+    Stelem,
+    UnboxAny,
+    ConvOvfI1,
+    ConvOvfU1,
+    ConvOvfI2,
+    ConvOvfU2,
+    ConvOvfI4,
+    ConvOvfU4,
+    ConvOvfI8,
+    ConvOvfU8,
+    ConvU2,
+    ConvU1,
+    AddOvf,
+    AddOvfUn,
+    MulOvf,
+    MulOvfUn,
+    SubOvf,
+    SubOvfUn,
+    Endfinally,
+    Leave,
+    LeaveS,
+    Ceq,
+    Cgt,
+    CgtUn,
+    Clt,
+    CltUn,
+    Ldftn,
+    Ldvirtftn,
+    Ldarg,
+    Ldarga,
+    Starg,
+    Ldloc,
+    Ldloca,
+    Stloc,
+    Rethrow,
 }
 
-/// What follows an opcode in the code: nothing, or a signed number of one or of four bytes, the least byte first.
+/// What follows an opcode in the code (ECMA-335 III.1.9, VI.C.2), the least byte first.
 #[derive(Clone, Copy, Debug, PartialEq, Eq)]
 pub enum Operand {
+    /// Nothing.
     Absent,
+    /// The number of an argument or a local, in one byte.
+    Var8,
+    /// The number of an argument or a local, in two bytes.
+    Var16,
+    /// A signed number of one byte.
     Int8,
+    /// A signed number of four bytes.
     Int32,
+    /// A signed number of eight bytes.
+    Int64,
+    /// A metadata token, in four bytes.
+    Token,
+    /// How far a branch goes from the next instruction on, as a signed number of one byte.
+    Target8,
+    /// How far a branch goes from the next instruction on, as a signed number of four bytes.
+    Target32,
+    /// How many cases a switch has, in four bytes. Behind them stands for each case how far it goes from the next
+    /// instruction on, as a signed number of four bytes.
+    Switch,
 }
 
-/// A line of the instruction table: the opcode, its mnemonic and its operand.
-#[derive(Clone, Copy, Debug, PartialEq, Eq)]
-pub struct Entry {
-    pub code: u16,
-    pub op: Op,
-    pub operand: Operand,
-}
-
-/// What an instruction does, apart from the values that it does it with.
+/// What an instruction of a lone body does, apart from the values that it does it with.
 #[derive(Clone, Copy, Debug, PartialEq, Eq)]
 pub enum Row {
     Load(Source),
     Binary(Two),
     Return,
+    /// No lone body has the instruction.
+    Beyond,
 }
 
 /// Where a load takes its value: an argument, a number that the mnemonic names, or the operand.
@@ -68,112 +233,197 @@ pub enum Two {
     Mul,
 }
 
-/// The instruction table (ECMA-335 III.1.2.1): each opcode once.
-pub const TABLE: [Entry; 20] = [
-    Entry {
-        code: 0x02,
-        op: Op::Ldarg0,
-        operand: Operand::Absent,
-    },
-    Entry {
-        code: 0x03,
-        op: Op::Ldarg1,
-        operand: Operand::Absent,
-    },
-    Entry {
-        code: 0x04,
-        op: Op::Ldarg2,
-        operand: Operand::Absent,
-    },
-    Entry {
-        code: 0x05,
-        op: Op::Ldarg3,
-        operand: Operand::Absent,
-    },
-    Entry {
-        code: 0x15,
-        op: Op::LdcI4M1,
-        operand: Operand::Absent,
-    },
-    Entry {
-        code: 0x16,
-        op: Op::LdcI40,
-        operand: Operand::Absent,
-    },
-    Entry {
-        code: 0x17,
-        op: Op::LdcI41,
-        operand: Operand::Absent,
-    },
-    Entry {
-        code: 0x18,
-        op: Op::LdcI42,
-        operand: Operand::Absent,
-    },
-    Entry {
-        code: 0x19,
-        op: Op::LdcI43,
-        operand: Operand::Absent,
-    },
-    Entry {
-        code: 0x1A,
-        op: Op::LdcI44,
-        operand: Operand::Absent,
-    },
-    Entry {
-        code: 0x1B,
-        op: Op::LdcI45,
-        operand: Operand::Absent,
-    },
-    Entry {
-        code: 0x1C,
-        op: Op::LdcI46,
-        operand: Operand::Absent,
-    },
-    Entry {
-        code: 0x1D,
-        op: Op::LdcI47,
-        operand: Operand::Absent,
-    },
-    Entry {
-        code: 0x1E,
-        op: Op::LdcI48,
-        operand: Operand::Absent,
-    },
-    Entry {
-        code: 0x1F,
-        op: Op::LdcI4S,
-        operand: Operand::Int8,
-    },
-    Entry {
-        code: 0x20,
-        op: Op::LdcI4,
-        operand: Operand::Int32,
-    },
-    Entry {
-        code: 0x58,
-        op: Op::Add,
-        operand: Operand::Absent,
-    },
-    Entry {
-        code: 0x59,
-        op: Op::Sub,
-        operand: Operand::Absent,
-    },
-    Entry {
-        code: 0x5A,
-        op: Op::Mul,
-        operand: Operand::Absent,
-    },
-    Entry {
-        code: 0x2A,
-        op: Op::Ret,
-        operand: Operand::Absent,
-    },
+/// The byte that the opcodes of two bytes begin with (ECMA-335 III.1.2.1).
+pub const PREFIX: u8 = 0xFE;
+
+/// The instruction table (ECMA-335 VI.C.2): each opcode that is taken, with its mnemonic and its operand. An opcode of
+/// two bytes is the number whose high byte is the first of them.
+pub const TABLE: [(u16, Op, Operand); 173] = [
+    (0x00, Op::Nop, Operand::Absent),
+    (0x02, Op::Ldarg0, Operand::Absent),
+    (0x03, Op::Ldarg1, Operand::Absent),
+    (0x04, Op::Ldarg2, Operand::Absent),
+    (0x05, Op::Ldarg3, Operand::Absent),
+    (0x06, Op::Ldloc0, Operand::Absent),
+    (0x07, Op::Ldloc1, Operand::Absent),
+    (0x08, Op::Ldloc2, Operand::Absent),
+    (0x09, Op::Ldloc3, Operand::Absent),
+    (0x0A, Op::Stloc0, Operand::Absent),
+    (0x0B, Op::Stloc1, Operand::Absent),
+    (0x0C, Op::Stloc2, Operand::Absent),
+    (0x0D, Op::Stloc3, Operand::Absent),
+    (0x0E, Op::LdargS, Operand::Var8),
+    (0x0F, Op::LdargaS, Operand::Var8),
+    (0x10, Op::StargS, Operand::Var8),
+    (0x11, Op::LdlocS, Operand::Var8),
+    (0x12, Op::LdlocaS, Operand::Var8),
+    (0x13, Op::StlocS, Operand::Var8),
+    (0x14, Op::Ldnull, Operand::Absent),
+    (0x15, Op::LdcI4M1, Operand::Absent),
+    (0x16, Op::LdcI40, Operand::Absent),
+    (0x17, Op::LdcI41, Operand::Absent),
+    (0x18, Op::LdcI42, Operand::Absent),
+    (0x19, Op::LdcI43, Operand::Absent),
+    (0x1A, Op::LdcI44, Operand::Absent),
+    (0x1B, Op::LdcI45, Operand::Absent),
+    (0x1C, Op::LdcI46, Operand::Absent),
+    (0x1D, Op::LdcI47, Operand::Absent),
+    (0x1E, Op::LdcI48, Operand::Absent),
+    (0x1F, Op::LdcI4S, Operand::Int8),
+    (0x20, Op::LdcI4, Operand::Int32),
+    (0x21, Op::LdcI8, Operand::Int64),
+    (0x25, Op::Dup, Operand::Absent),
+    (0x26, Op::Pop, Operand::Absent),
+    (0x28, Op::Call, Operand::Token),
+    (0x2A, Op::Ret, Operand::Absent),
+    (0x2B, Op::BrS, Operand::Target8),
+    (0x2C, Op::BrfalseS, Operand::Target8),
+    (0x2D, Op::BrtrueS, Operand::Target8),
+    (0x2E, Op::BeqS, Operand::Target8),
+    (0x2F, Op::BgeS, Operand::Target8),
+    (0x30, Op::BgtS, Operand::Target8),
+    (0x31, Op::BleS, Operand::Target8),
+    (0x32, Op::BltS, Operand::Target8),
+    (0x33, Op::BneUnS, Operand::Target8),
+    (0x34, Op::BgeUnS, Operand::Target8),
+    (0x35, Op::BgtUnS, Operand::Target8),
+    (0x36, Op::BleUnS, Operand::Target8),
+    (0x37, Op::BltUnS, Operand::Target8),
+    (0x38, Op::Br, Operand::Target32),
+    (0x39, Op::Brfalse, Operand::Target32),
+    (0x3A, Op::Brtrue, Operand::Target32),
+    (0x3B, Op::Beq, Operand::Target32),
+    (0x3C, Op::Bge, Operand::Target32),
+    (0x3D, Op::Bgt, Operand::Target32),
+    (0x3E, Op::Ble, Operand::Target32),
+    (0x3F, Op::Blt, Operand::Target32),
+    (0x40, Op::BneUn, Operand::Target32),
+    (0x41, Op::BgeUn, Operand::Target32),
+    (0x42, Op::BgtUn, Operand::Target32),
+    (0x43, Op::BleUn, Operand::Target32),
+    (0x44, Op::BltUn, Operand::Target32),
+    (0x45, Op::Switch, Operand::Switch),
+    (0x46, Op::LdindI1, Operand::Absent),
+    (0x47, Op::LdindU1, Operand::Absent),
+    (0x48, Op::LdindI2, Operand::Absent),
+    (0x49, Op::LdindU2, Operand::Absent),
+    (0x4A, Op::LdindI4, Operand::Absent),
+    (0x4B, Op::LdindU4, Operand::Absent),
+    (0x4C, Op::LdindI8, Operand::Absent),
+    (0x50, Op::LdindRef, Operand::Absent),
+    (0x51, Op::StindRef, Operand::Absent),
+    (0x52, Op::StindI1, Operand::Absent),
+    (0x53, Op::StindI2, Operand::Absent),
+    (0x54, Op::StindI4, Operand::Absent),
+    (0x55, Op::StindI8, Operand::Absent),
+    (0x58, Op::Add, Operand::Absent),
+    (0x59, Op::Sub, Operand::Absent),
+    (0x5A, Op::Mul, Operand::Absent),
+    (0x5B, Op::Div, Operand::Absent),
+    (0x5C, Op::DivUn, Operand::Absent),
+    (0x5D, Op::Rem, Operand::Absent),
+    (0x5E, Op::RemUn, Operand::Absent),
+    (0x5F, Op::And, Operand::Absent),
+    (0x60, Op::Or, Operand::Absent),
+    (0x61, Op::Xor, Operand::Absent),
+    (0x62, Op::Shl, Operand::Absent),
+    (0x63, Op::Shr, Operand::Absent),
+    (0x64, Op::ShrUn, Operand::Absent),
+    (0x65, Op::Neg, Operand::Absent),
+    (0x66, Op::Not, Operand::Absent),
+    (0x67, Op::ConvI1, Operand::Absent),
+    (0x68, Op::ConvI2, Operand::Absent),
+    (0x69, Op::ConvI4, Operand::Absent),
+    (0x6A, Op::ConvI8, Operand::Absent),
+    (0x6D, Op::ConvU4, Operand::Absent),
+    (0x6E, Op::ConvU8, Operand::Absent),
+    (0x6F, Op::Callvirt, Operand::Token),
+    (0x71, Op::Ldobj, Operand::Token),
+    (0x72, Op::Ldstr, Operand::Token),
+    (0x73, Op::Newobj, Operand::Token),
+    (0x74, Op::Castclass, Operand::Token),
+    (0x75, Op::Isinst, Operand::Token),
+    (0x79, Op::Unbox, Operand::Token),
+    (0x7A, Op::Throw, Operand::Absent),
+    (0x7B, Op::Ldfld, Operand::Token),
+    (0x7C, Op::Ldflda, Operand::Token),
+    (0x7D, Op::Stfld, Operand::Token),
+    (0x7E, Op::Ldsfld, Operand::Token),
+    (0x7F, Op::Ldsflda, Operand::Token),
+    (0x80, Op::Stsfld, Operand::Token),
+    (0x82, Op::ConvOvfI1Un, Operand::Absent),
+    (0x83, Op::ConvOvfI2Un, Operand::Absent),
+    (0x84, Op::ConvOvfI4Un, Operand::Absent),
+    (0x85, Op::ConvOvfI8Un, Operand::Absent),
+    (0x86, Op::ConvOvfU1Un, Operand::Absent),
+    (0x87, Op::ConvOvfU2Un, Operand::Absent),
+    (0x88, Op::ConvOvfU4Un, Operand::Absent),
+    (0x89, Op::ConvOvfU8Un, Operand::Absent),
+    (0x8C, Op::Box, Operand::Token),
+    (0x8D, Op::Newarr, Operand::Token),
+    (0x8E, Op::Ldlen, Operand::Absent),
+    (0x8F, Op::Ldelema, Operand::Token),
+    (0x90, Op::LdelemI1, Operand::Absent),
+    (0x91, Op::LdelemU1, Operand::Absent),
+    (0x92, Op::LdelemI2, Operand::Absent),
+    (0x93, Op::LdelemU2, Operand::Absent),
+    (0x94, Op::LdelemI4, Operand::Absent),
+    (0x95, Op::LdelemU4, Operand::Absent),
+    (0x96, Op::LdelemI8, Operand::Absent),
+    (0x9A, Op::LdelemRef, Operand::Absent),
+    (0x9C, Op::StelemI1, Operand::Absent),
+    (0x9D, Op::StelemI2, Operand::Absent),
+    (0x9E, Op::StelemI4, Operand::Absent),
+    (0x9F, Op::StelemI8, Operand::Absent),
+    (0xA2, Op::StelemRef, Operand::Absent),
+    (0xA3, Op::Ldelem, Operand::Token),
+    (0xA4, Op::Stelem, Operand::Token),
+    (0xA5, Op::UnboxAny, Operand::Token),
+    (0xB3, Op::ConvOvfI1, Operand::Absent),
+    (0xB4, Op::ConvOvfU1, Operand::Absent),
+    (0xB5, Op::ConvOvfI2, Operand::Absent),
+    (0xB6, Op::ConvOvfU2, Operand::Absent),
+    (0xB7, Op::ConvOvfI4, Operand::Absent),
+    (0xB8, Op::ConvOvfU4, Operand::Absent),
+    (0xB9, Op::ConvOvfI8, Operand::Absent),
+    (0xBA, Op::ConvOvfU8, Operand::Absent),
+    (0xD1, Op::ConvU2, Operand::Absent),
+    (0xD2, Op::ConvU1, Operand::Absent),
+    (0xD6, Op::AddOvf, Operand::Absent),
+    (0xD7, Op::AddOvfUn, Operand::Absent),
+    (0xD8, Op::MulOvf, Operand::Absent),
+    (0xD9, Op::MulOvfUn, Operand::Absent),
+    (0xDA, Op::SubOvf, Operand::Absent),
+    (0xDB, Op::SubOvfUn, Operand::Absent),
+    (0xDC, Op::Endfinally, Operand::Absent),
+    (0xDD, Op::Leave, Operand::Target32),
+    (0xDE, Op::LeaveS, Operand::Target8),
+    (0xFE01, Op::Ceq, Operand::Absent),
+    (0xFE02, Op::Cgt, Operand::Absent),
+    (0xFE03, Op::CgtUn, Operand::Absent),
+    (0xFE04, Op::Clt, Operand::Absent),
+    (0xFE05, Op::CltUn, Operand::Absent),
+    (0xFE06, Op::Ldftn, Operand::Token),
+    (0xFE07, Op::Ldvirtftn, Operand::Token),
+    (0xFE09, Op::Ldarg, Operand::Var16),
+    (0xFE0A, Op::Ldarga, Operand::Var16),
+    (0xFE0B, Op::Starg, Operand::Var16),
+    (0xFE0C, Op::Ldloc, Operand::Var16),
+    (0xFE0D, Op::Ldloca, Operand::Var16),
+    (0xFE0E, Op::Stloc, Operand::Var16),
+    (0xFE1A, Op::Rethrow, Operand::Absent),
+];
+
+/// The opcodes of the standard's other instructions.
+pub const LEFT_OUT: [u16; 46] = [
+    0x01, 0x22, 0x23, 0x27, 0x29, 0x4D, 0x4E, 0x4F, 0x56, 0x57, 0x6B, 0x6C, 0x70, 0x76, 0x81, 0x8A,
+    0x8B, 0x97, 0x98, 0x99, 0x9B, 0xA0, 0xA1, 0xC2, 0xC3, 0xC6, 0xD0, 0xD3, 0xD4, 0xD5, 0xDF, 0xE0,
+    0xFE00, 0xFE0F, 0xFE11, 0xFE12, 0xFE13, 0xFE14, 0xFE15, 0xFE16, 0xFE17, 0xFE18, 0xFE19, 0xFE1C,
+    0xFE1D, 0xFE1E,
 ];
 
 impl Op {
-    /// What the instruction does.
+    /// What the instruction does in a lone body.
     pub fn row(self) -> Row
         ensures { result ≡ row_of self }
     {
@@ -197,37 +447,33 @@ impl Op {
             Op::Sub => Row::Binary(Two::Sub),
             Op::Mul => Row::Binary(Two::Mul),
             Op::Ret => Row::Return,
+            _ => Row::Beyond,
         }
     }
 
-    /// What follows the opcode.
-    pub fn operand(self) -> Operand
-        ensures { result ≡ operand_of self }
-    {
-        match self {
-            Op::LdcI4S => Operand::Int8,
-            Op::LdcI4 => Operand::Int32,
-            _ => Operand::Absent,
-        }
-    }
-
-    /// The bytes of the instruction: its opcode and its operand.
+    /// The bytes of the instruction in a lone body: its opcode of one byte, and its operand.
     pub fn size(self) -> usize
         ensures { result ≡ size_of self }
     {
-        1 + self.operand().len()
+        match self {
+            Op::LdcI4S => 2,
+            Op::LdcI4 => 5,
+            _ => 1,
+        }
     }
 }
 
 impl Operand {
-    /// In bytes.
+    /// In bytes, without the cases of a switch.
     pub fn len(self) -> usize
         ensures { result ≡ operand_len self }
     {
         match self {
             Operand::Absent => 0,
-            Operand::Int8 => 1,
-            Operand::Int32 => 4,
+            Operand::Var8 | Operand::Int8 | Operand::Target8 => 1,
+            Operand::Var16 => 2,
+            Operand::Int32 | Operand::Token | Operand::Target32 | Operand::Switch => 4,
+            Operand::Int64 => 8,
         }
     }
 }

@@ -1,11 +1,12 @@
 // A lone body.
 
 ghost use Rattle.std.specs.Prelude.{◌≡◌, ◌<◌, ◌≤◌, ◌^◌, length, IfOk, IfErr, OnOk};
-ghost use Rattle.cil_body.specs.Cut.{IsConsecutive};
-ghost use Rattle.cil_body.specs.Lone.{IsWhole, IsCut, IsBalanced, IsLone, IsLoneFault, IsRefused, IsBreak, fault_of};
+ghost use Rattle.cil_body.specs.Cut.{IsConsecutive, lone_at};
+ghost use Rattle.cil_body.specs.Lone.{IsWhole, IsCut, IsBalanced, IsLone, IsLoneFault, IsRefused, IsBreak, stop_of};
 ghost use Rattle.dc_base.specs.declared.failure.Or.TheVariants.{Fault};
 
-use crate::{BodyCause, BodyFault, Row, Simple, next};
+use crate::instruction::{Simple, entry, number};
+use crate::opcode::Row;
 use dc_base::Or;
 use std::alloc::Global;
 
@@ -29,16 +30,42 @@ impl From<LoneFault> for Or<LoneFault> {
     }
 }
 
-/// The fault of a lone body whose cut stops.
-impl From<BodyFault> for Or<LoneFault> {
-    ghost from_gives = { λ fault or. or ≡ fault_of fault };
+// Why no instruction of a lone body stands at a place: its byte begins none, or the bytes end within it.
+enum Stop {
+    NotYet(u8),
+    Truncated,
+}
 
-    fn from(fault: BodyFault) -> Self {
-        match fault.cause {
-            BodyCause::NotYet(byte) => Or::Fault(LoneFault::NotYet(byte, fault.at)),
-            BodyCause::Truncated => Or::Fault(LoneFault::Truncated(fault.at)),
-        }
+// The fault of a lone body whose cut stops at this place.
+fn stopped(stop: Stop, at: u32) -> LoneFault
+    ensures { result ≡ stop_of stop at }
+{
+    match stop {
+        Stop::NotYet(byte) => LoneFault::NotYet(byte, at),
+        Stop::Truncated => LoneFault::Truncated(at),
     }
+}
+
+// The instruction of a lone body that the bytes begin with.
+fn first_lone(bytes: &[u8]) -> Result<Simple, Stop>
+    ensures { result ≡ lone_at bytes.now }
+{
+    let [code, behind @ ..] = bytes else {
+        return Err(Stop::Truncated);
+    };
+    let Some((_, op, operand)) = entry(u16::from(*code)) else {
+        return Err(Stop::NotYet(*code));
+    };
+    if let Row::Beyond = op.row() {
+        return Err(Stop::NotYet(*code));
+    }
+    if behind.len() < operand.len() {
+        return Err(Stop::Truncated);
+    }
+    Ok(Simple {
+        op,
+        arg: number(operand, behind),
+    })
 }
 
 /// The instructions of a file that is one body with a tiny header, each with its place from the file's first byte.
@@ -85,9 +112,13 @@ fn cut(alloc: Global, bytes: &[u8], size: usize) -> Result<Vec<(u32, Simple)>, O
     let mut code = Vec::new(alloc);
     let mut at = 1;
     while at < body.len() {
-        let (found, after) = next(body, at)?;
-        code.push((at as u32, found))?;
-        at = after;
+        match first_lone(&body[at..]) {
+            Ok(simple) => {
+                code.push((at as u32, simple))?;
+                at += simple.op.size();
+            }
+            Err(stop) => return Err(Or::Fault(stopped(stop, at as u32))),
+        }
     }
     Ok(code)
 }
@@ -114,6 +145,7 @@ fn balance(code: &[(u32, Simple)], end: u32) -> Result<(), LoneFault>
                 }
                 return Err(LoneFault::BadReturn(*place));
             }
+            Row::Beyond => {}
         }
     }
     Err(LoneFault::BadReturn(end))
