@@ -5,3 +5,10 @@ pub mod Fields
 pub mod Reading
 pub mod Parts
 pub mod Above
+pub mod First
+pub mod OneHeader
+pub mod OneCode
+pub mod OneChain
+pub mod OneBody
+pub mod Ranges
+pub mod OneRegions

@@ -1,7 +1,7 @@
-// What follows from the definitions of a lone body and of the table, for the crates above.
+// What follows from the definitions, for the crates above.
 
 ghost use Rattle.cil_body.specs.Opcode.{HasEach, HasNoLeftOut};
-ghost use Rattle.cil_body.specs.Laws.{HasOneCode, HasNoFault, HasOneFault, CodeWalks, OperandsFit, CodeIsConsecutive, PlacesAreWithin};
+ghost use Rattle.cil_body.specs.Laws.{HasOneCode, HasNoFault, HasOneFault, CodeWalks, OperandsFit, CodeIsConsecutive, PlacesAreWithin, HasOneBody, BodyHasNoFault, BodyHasOneFault, BodyHasRanges, TreeHasNoFault, TreeHasOneFault};
 
 /// The table has a line for each instruction, and none for an opcode that is left out.
 pub fn table_has_each()
@@ -26,4 +26,22 @@ pub fn code_fills_the_file()
     ensures consecutive { CodeIsConsecutive }
     ensures within { PlacesAreWithin }
     ensures operands { OperandsFit }
+{}
+
+/// Bytes begin with one body, or have one fault, and never both.
+pub fn one_body()
+    ensures one_body { HasOneBody }
+    ensures no_fault { BodyHasNoFault }
+    ensures one_fault { BodyHasOneFault }
+{}
+
+/// The clauses of a body that was read are ranges of its code.
+pub fn body_has_ranges()
+    ensures { BodyHasRanges }
+{}
+
+/// The regions of a body make a tree, or have one fault, and never both.
+pub fn one_region_fault()
+    ensures no_fault { TreeHasNoFault }
+    ensures one_fault { TreeHasOneFault }
 {}

@@ -24,7 +24,10 @@ mod standalone;
 pub use body::{Body, Clause, ClauseKind, Instr, decode};
 pub use fault::{BodyCause, BodyFault};
 pub use instruction::{Simple, next};
-pub use laws::{balance_is_a_walk, code_fills_the_file, one_reading, table_has_each};
+pub use laws::{
+    balance_is_a_walk, body_has_ranges, code_fills_the_file, one_body, one_reading,
+    one_region_fault, table_has_each,
+};
 pub use opcode::{LEFT_OUT, Op, Operand, PREFIX, Row, Source, TABLE, Two};
 pub use region::{Region, RegionFault, RegionKind, RegionTree, regions};
 pub use standalone::{LoneFault, lone};
