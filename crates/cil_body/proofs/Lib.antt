@@ -12,3 +12,5 @@ pub mod OneChain
 pub mod OneBody
 pub mod Ranges
 pub mod OneRegions
+pub mod Ordered
+pub mod OneTree

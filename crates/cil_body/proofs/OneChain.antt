@@ -87,10 +87,11 @@ clauses_split :
     (P : RawClause → Type 0) (bytes : List ℕ) (ss : List Section) (t : Section) (more : List Section) → All P (all_clauses bytes (ss ++ t ∷ more)) → All P (all_clauses bytes ss) × All P (clauses_of bytes t)
 clauses_split P bytes ss t more all =
     let apart : All P (all_clauses bytes ss ++ (clauses_of bytes t ++ all_clauses bytes more)) =
-    subst (λ (xs : List RawClause). All P xs) (flat_map-append (clauses_of bytes) ss (t ∷ more)) all in
-    (all_left P (all_clauses bytes ss) (clauses_of bytes t ++ all_clauses bytes more) apart,
-    all_left P (clauses_of bytes t) (all_clauses bytes more)
-    (all_right P (all_clauses bytes ss) (clauses_of bytes t ++ all_clauses bytes more) apart))
+    subst (λ (xs : List RawClause). All P xs) (flat_map-append (clauses_of bytes) ss (t ∷ more)) all in (
+      all_left P (all_clauses bytes ss) (clauses_of bytes t ++ all_clauses bytes more) apart,
+      all_left P (clauses_of bytes t) (all_clauses bytes more)
+          (all_right P (all_clauses bytes ss) (clauses_of bytes t ++ all_clauses bytes more) apart),
+    )
 
 -- what a longer chain says of the section where the shorter one ends
 longer_fine :

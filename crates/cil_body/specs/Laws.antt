@@ -57,6 +57,10 @@ BodyHasOneFault =
 abbrev pub BodyHasRanges : Type 0
 BodyHasRanges = (bytes : List ℕ) (limit : ℕ) (body : Body) → length bytes ≤ 2 ^ 31 → IsBody bytes limit body → HasRanges body
 
+-- the regions of a body make one tree
+abbrev pub HasOneTree : Type 0
+HasOneTree = (body : Body) (tree other : RegionTree) → IsRegionTree body tree → IsRegionTree body other → tree ≡ other
+
 -- a body with a fault of its regions has no tree of them
 abbrev pub TreeHasNoFault : Type 0
 TreeHasNoFault = (body : Body) (tree : RegionTree) (fault : RegionFault) → IsRegionTree body tree → IsRegionFault body fault → ⊥

@@ -1,7 +1,7 @@
 // What follows from the definitions, for the crates above.
 
 ghost use Rattle.cil_body.specs.Opcode.{HasEach, HasNoLeftOut};
-ghost use Rattle.cil_body.specs.Laws.{HasOneCode, HasNoFault, HasOneFault, CodeWalks, OperandsFit, CodeIsConsecutive, PlacesAreWithin, HasOneBody, BodyHasNoFault, BodyHasOneFault, BodyHasRanges, TreeHasNoFault, TreeHasOneFault};
+ghost use Rattle.cil_body.specs.Laws.{HasOneCode, HasNoFault, HasOneFault, CodeWalks, OperandsFit, CodeIsConsecutive, PlacesAreWithin, HasOneBody, BodyHasNoFault, BodyHasOneFault, BodyHasRanges, HasOneTree, TreeHasNoFault, TreeHasOneFault};
 
 /// The table has a line for each instruction, and none for an opcode that is left out.
 pub fn table_has_each()
@@ -40,8 +40,9 @@ pub fn body_has_ranges()
     ensures { BodyHasRanges }
 {}
 
-/// The regions of a body make a tree, or have one fault, and never both.
-pub fn one_region_fault()
+/// The regions of a body make one tree, or have one fault, and never both.
+pub fn one_region_tree()
+    ensures one_tree { HasOneTree }
     ensures no_fault { TreeHasNoFault }
     ensures one_fault { TreeHasOneFault }
 {}
