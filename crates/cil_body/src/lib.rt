@@ -20,6 +20,8 @@ mod opcode;
 mod region;
 mod section;
 mod standalone;
+#[cfg(test)]
+mod tests;
 
 pub use body::{Body, Clause, ClauseKind, Instr, decode};
 pub use fault::{BodyCause, BodyFault};

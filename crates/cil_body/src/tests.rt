@@ -1,0 +1,7 @@
+// Bodies that are read and refused, by topic.
+
+mod bodies;
+mod instructions;
+mod lone;
+mod regions;
+mod sections;
