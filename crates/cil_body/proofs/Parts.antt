@@ -2,15 +2,13 @@
 use Rattle.std.proofs.Common.{◌≡◌, ℕ, ◌+◌, ◌<◌, List, [], ◌∷◌, ◌++◌, length, take, drop, Ok, Err, sym, ◌∙◌, ap, subst, inr, arith}
 use Rattle.std.proofs.lemmas.List.{drop-take, drop-drop, length-drop}
 use Rattle.cil_body.specs.declared.instruction.Simple.{Simple}
-use Rattle.cil_body.specs.declared.instruction.BodyFault.{BodyFault}
-use Rattle.cil_body.specs.declared.instruction.BodyCause.{BodyCause}
-use Rattle.cil_body.specs.declared.instruction.BodyCause.TheVariants.{NotYet as NotYetHere, Truncated as TruncatedHere}
+use Rattle.cil_body.specs.declared.standalone.Stop.{Stop}
+use Rattle.cil_body.specs.declared.standalone.Stop.TheVariants.{NotYet as NotYetHere, Truncated as TruncatedHere}
 use Rattle.cil_body.specs.declared.standalone.LoneFault.{LoneFault}
 use Rattle.cil_body.specs.declared.standalone.LoneFault.TheVariants.{BadHeader, Truncated, NotYet, Underflow, BadReturn, Trailing}
 use Rattle.cil_body.specs.Opcode.{size_of}
-use Rattle.cil_body.specs.Instruction.{instruction_at}
-use Rattle.cil_body.specs.Cut.{Placed, Cuts}
-use Rattle.cil_body.specs.Lone.{code_bytes, IsWhole, IsCut, IsBreak, Stops, IsLoneFault, IsRefused, stop_of, fault_of}
+use Rattle.cil_body.specs.Cut.{Placed, Cuts, lone_at}
+use Rattle.cil_body.specs.Lone.{code_bytes, IsWhole, IsCut, IsBreak, Stops, IsLoneFault, stop_of}
 use Rattle.cil_body.proofs.Cut.{Cuts-push}
 
 -- the bytes behind the header, up to the code's end
@@ -21,7 +19,7 @@ code_of_front file size =
 
 -- a cut grows by the instruction that stands at its end
 pub cut_step :
-    (body : List ℕ) (code : List Placed) (at after : ℕ) (i : Simple) → Cuts 1 (drop 1 body) code at (drop at body) → instruction_at (drop at body) ≡ Ok i → after ≡ at + size_of i.op → Cuts 1 (drop 1 body) (code ++ (at, i) ∷ []) after (drop after body)
+    (body : List ℕ) (code : List Placed) (at after : ℕ) (i : Simple) → Cuts 1 (drop 1 body) code at (drop at body) → lone_at (drop at body) ≡ Ok i → after ≡ at + size_of i.op → Cuts 1 (drop 1 body) (code ++ (at, i) ∷ []) after (drop after body)
 cut_step body code at after i h k is =
     let grown = Cuts-push 1 (drop 1 body) code at (drop at body) i h k in
     let rest : drop (size_of i.op) (drop at body) ≡ drop (at + size_of i.op) body = drop-drop (size_of i.op) at body in
@@ -43,14 +41,10 @@ module _ (file : List ℕ) (size : ℕ) (code : List Placed) (at : ℕ) (whole :
             omega arith;
       }
 
-  stops_by : (cause : BodyCause) → instruction_at (drop at (take (size + 1) file)) ≡ Err cause → IsRefused file (stop_of cause at)
-  stops_by (NotYetHere byte) h = (drop at (take (size + 1) file), stops, h)
-  stops_by TruncatedHere h = inr (drop at (take (size + 1) file), stops, h)
-
   -- a cut that can't grow
-  pub cut_stop : (fault : BodyFault) → instruction_at (drop at (take (size + 1) file)) ≡ Err fault.cause → fault.at ≡ at → IsRefused file (fault_of fault)
-  cut_stop fault h is =
-      subst (λ (p : ℕ). IsRefused file (stop_of fault.cause p)) (sym is) (stops_by fault.cause h)
+  pub cut_stop : (stop : Stop) → lone_at (drop at (take (size + 1) file)) ≡ Err stop → IsLoneFault file (stop_of stop at)
+  cut_stop (NotYetHere byte) h = (drop at (take (size + 1) file), stops, h)
+  cut_stop TruncatedHere h = inr (drop at (take (size + 1) file), stops, h)
 
 -- the fault of code that is cut
 pub break_fault : (file : List ℕ) (size : ℕ) (code : List Placed) (fault : LoneFault) → IsCut file size code → IsBreak code (size + 1) fault → IsLoneFault file fault
