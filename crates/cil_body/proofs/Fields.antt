@@ -1,5 +1,5 @@
 -- What is known of each instruction of a cut: its place, its bytes, its operand and its row.
-use Rattle.std.proofs.Common.{◌≡◌, ℕ, zero, suc, ◌+◌, ◌<◌, ◌≤◌, Bool, true, false, cond, ltb, List, [], ◌∷◌, length, get_or, drop, Option, None, Some, Result, Ok, Err, arith, rules, refl, subst}
+use Rattle.std.proofs.Common.{◌≡◌, ℕ, zero, suc, ◌+◌, ◌<◌, ◌≤◌, Bool, true, false, cond, ltb, List, [], ◌∷◌, length, get_or, drop, Option, None, Some, Result, Ok, Err, ℤ, arith, rules, refl, sym, ◌∙◌, ap, subst}
 use Rattle.std.proofs.lemmas.Int.{ints}
 use Rattle.std.specs.Int.{cast_signed, w8, w32}
 use Rattle.std.specs.Int.RustNames.{FitsSigned}
@@ -97,6 +97,38 @@ Stood-line code b (Some e) bytes i is h =
 pub lone_at-stood : (bytes : List ℕ) (i : Simple) → lone_at bytes ≡ Ok i → Stood bytes i
 lone_at-stood [] i h = cc
 lone_at-stood (b ∷ bytes) i h = Stood-line b b (entry_of b) bytes i refl h
+
+-- how the instruction is read that some bytes begin with
+lone_at-line : (bytes : List ℕ) (e : Line) → 0 < length bytes → entry_of (get_or bytes 0 0) ≡ Some e → lone_at bytes ≡ with_row (get_or bytes 0 0) (row_of e.1) e (drop 1 bytes)
+lone_at-line [] e l h = absurd (omega arith)
+lone_at-line (b ∷ bytes) e l h = ap (λ (line : Option Line). with_line b line bytes) h
+
+with_row-operand : (r : Row) (code : ℕ) (e : Line) (bytes : List ℕ) → (r ≡ Beyond → ⊥) → with_row code r e bytes ≡ with_operand e bytes
+with_row-operand (Load s) code e bytes h = refl
+with_row-operand (Binary t) code e bytes h = refl
+with_row-operand Return code e bytes h = refl
+with_row-operand Beyond code e bytes h = absurd (h refl)
+
+when_short : (a b : ℕ) (x : Simple) → a < b → cond {A = Result Simple Stop} (ltb a b) (Err Truncated) (Ok x) ≡ Err Truncated
+when_short a b x h = grind arith
+
+when_long : (a b : ℕ) (x : Simple) → b ≤ a → cond {A = Result Simple Stop} (ltb a b) (Err Truncated) (Ok x) ≡ Ok x
+when_long a b x h = grind arith
+
+module _ (bytes : List ℕ) (code : ℕ) (e : Line) (r : Row) (len : ℕ) (some : 0 < length bytes) (is_code : code ≡ get_or bytes 0 0) (is_line : Some e ≡ entry_of code) (is_row : r ≡ row_of e.1) (taken : r ≡ Beyond → ⊥) (is_len : len ≡ operand_len e.2) where
+  lone_at-operand : lone_at bytes ≡ with_operand e (drop 1 bytes)
+  lone_at-operand =
+      lone_at-line bytes e some (ap entry_of (sym is_code) ∙ sym is_line)
+      ∙ with_row-operand (row_of e.1) (get_or bytes 0 0) e (drop 1 bytes) (λ is. taken (is_row ∙ is))
+
+  pub lone_at-short : length (drop 1 bytes) < len → Err Truncated ≡ lone_at bytes
+  lone_at-short h =
+      sym (lone_at-operand ∙ when_short (length (drop 1 bytes)) (operand_len e.2) (record { op = e.1; arg = number_of e.2 (drop 1 bytes) }) (omega arith))
+
+  pub lone_at-read : (arg : ℤ) → len ≤ length (drop 1 bytes) → arg ≡ number_of e.2 (drop 1 bytes) → Ok (record { op = e.1; arg = arg }) ≡ lone_at bytes
+  lone_at-read arg h is =
+      ap (λ (x : ℤ). Ok (record { op = e.1; arg = x })) is
+      ∙ sym (lone_at-operand ∙ when_long (length (drop 1 bytes)) (operand_len e.2) (record { op = e.1; arg = number_of e.2 (drop 1 bytes) }) (omega arith))
 
 pub Cuts-operand : (at : ℕ) (bytes : List ℕ) (code : List Placed) (end : ℕ) (rest : List ℕ) → Cuts at bytes code end rest → (k : ℕ) (d : Placed) → k < length code → FitsSigned w32 (get_or code k d).1.arg
 Cuts-operand at bytes [] end rest h k d l = absurd (omega arith)

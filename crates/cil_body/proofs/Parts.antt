@@ -1,5 +1,5 @@
 -- What the parts of a lone body's reading hand on.
-use Rattle.std.proofs.Common.{◌≡◌, ℕ, ◌+◌, ◌<◌, List, [], ◌∷◌, ◌++◌, length, take, drop, Ok, Err, sym, ◌∙◌, ap, subst, inr, arith}
+use Rattle.std.proofs.Common.{◌≡◌, ℕ, ◌+◌, ◌<◌, ◌≤◌, List, [], ◌∷◌, ◌++◌, length, take, drop, Ok, Err, sym, ◌∙◌, ap, subst, inr, arith}
 use Rattle.std.proofs.lemmas.List.{drop-take, drop-drop, length-drop}
 use Rattle.cil_body.specs.declared.instruction.Simple.{Simple}
 use Rattle.cil_body.specs.declared.standalone.Stop.{Stop}
@@ -10,6 +10,7 @@ use Rattle.cil_body.specs.Opcode.{size_of}
 use Rattle.cil_body.specs.Cut.{Placed, Cuts, lone_at}
 use Rattle.cil_body.specs.Lone.{code_bytes, IsWhole, IsCut, IsBreak, Stops, IsLoneFault, stop_of}
 use Rattle.cil_body.proofs.Cut.{Cuts-push}
+use Rattle.cil_body.proofs.Fields.{lone_at-stood}
 
 -- the bytes behind the header, up to the code's end
 pub code_of_front : (file : List ℕ) (size : ℕ) → drop 1 (take (size + 1) file) ≡ code_bytes file size
@@ -26,6 +27,13 @@ cut_step body code at after i h k is =
     let here : Cuts 1 (drop 1 body) (code ++ (at, i) ∷ []) (at + size_of i.op) (drop (at + size_of i.op) body) =
     subst (λ (xs : List ℕ). Cuts 1 (drop 1 body) (code ++ (at, i) ∷ []) (at + size_of i.op) xs) rest grown in
     subst (λ (n : ℕ). Cuts 1 (drop 1 body) (code ++ (at, i) ∷ []) n (drop n body)) (sym is) here
+
+-- an instruction ends within the bytes
+pub cut_within :
+    (body : List ℕ) (at after : ℕ) (i : Simple) → at < length body → lone_at (drop at body) ≡ Ok i → after ≡ at + size_of i.op → after ≤ length body
+cut_within body at after i less h is =
+    let s : size_of i.op ≤ length (drop at body) = (lone_at-stood (drop at body) i h).within in
+    omega (arith, length-drop at body)
 
 module _ (file : List ℕ) (size : ℕ) (code : List Placed) (at : ℕ) (whole : IsWhole file size) (cut : Cuts 1 (drop 1 (take (size + 1) file)) code at (drop at (take (size + 1) file))) (within : at < length (take (size + 1) file)) where
   stops : Stops file at (drop at (take (size + 1) file))

@@ -1,6 +1,6 @@
 -- Each ending of the walk is what `first_break` says of the whole code.
 use Rattle.std.proofs.Common.{◌≢◌, ◌⊎◌, ◌+◌, [], drop, get_or, pos, inl, inr, arith}
-use Rattle.cil_body.specs.declared.opcode.Op.TheVariants.{Ldarg0}
+use Rattle.cil_body.specs.declared.opcode.Op.TheVariants.{Nop}
 use Rattle.cil_body.specs.declared.standalone.LoneFault.TheVariants.{Underflow, BadReturn}
 use Rattle.cil_body.specs.Cut.{Placed}
 use Rattle.cil_body.proofs.Break.{IsBreak-from_walk, IsBalanced-from_walk, walk_underflow, walk_bad_return, walk_return, walk_end, more_behind}
@@ -8,7 +8,7 @@ use Rattle.cil_body.proofs.standalone.balance.Goals as goal
 use Rattle.cil_body.proofs.standalone.balance.Goals.{else-depth-eq1-via-then-depth-eq1+else-i-code, else-depth-eq1-via-else-depth-eq1}
 
 any : Placed
-any = (0, record { op = Ldarg0; arg = pos 0 })
+any = (0, record { op = Nop; arg = pos 0 })
 
 pub returns-then-depth-lt2-clause-fault : goal.returns-then-depth-lt2-clause-fault
 unfolding any
