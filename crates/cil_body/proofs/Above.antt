@@ -3,15 +3,33 @@ use Rattle.std.proofs.Common.{◌≡◌, ℕ, ◌+◌, ◌-◌, ◌<◌, ◌≤�
 use Rattle.std.proofs.lemmas.List.{drop-drop}
 use Rattle.std.specs.Int.{w32}
 use Rattle.std.specs.Int.RustNames.{FitsSigned}
-use Rattle.cil_body.specs.Opcode.{size_of}
+use Rattle.cil_body.specs.declared.opcode.Row.{Row}
+use Rattle.cil_body.specs.declared.opcode.Row.TheVariants.{Load, Binary, Return, Beyond}
+use Rattle.cil_body.specs.Opcode.{row_of, size_of}
 use Rattle.cil_body.specs.Cut.{Placed, Cuts}
-use Rattle.cil_body.specs.Lone.{code_bytes, IsLone, Walks}
-use Rattle.cil_body.proofs.Walk.{Walks-from_balanced}
-use Rattle.cil_body.proofs.Fields.{consecutive_within, Cuts-operand}
+use Rattle.cil_body.specs.Lone.{depth_after, code_bytes, IsLone, DoesItsPart, Walks}
+use Rattle.cil_body.proofs.Walk.{GoesOn, Runs, Runs-from_balanced}
+use Rattle.cil_body.proofs.Fields.{IsTaken, consecutive_within, lone_at-stood, Cuts-operand}
 use Rattle.cil_body.proofs.Reading.{IsLone-consecutive}
 
+DoesItsPart-from_GoesOn : (r : Row) (depth : ℕ) (code : List Placed) (V W : Type 0) → (V → W) → IsTaken r → GoesOn r depth code V → DoesItsPart r depth code W
+DoesItsPart-from_GoesOn (Load s) depth code V W f t h = f h
+DoesItsPart-from_GoesOn (Binary b) depth code V W f t h = (h.0, f h.1)
+DoesItsPart-from_GoesOn Return depth code V W f t h = h
+DoesItsPart-from_GoesOn Beyond depth code V W f t h = absurd t
+
+-- code that is cut from bytes walks where it runs, since a lone body has each of its instructions
+Cuts-walks : (depth at : ℕ) (bytes : List ℕ) (code : List Placed) (end : ℕ) (rest : List ℕ) → Cuts at bytes code end rest → Runs depth code → Walks depth code
+Cuts-walks depth at bytes [] end rest h w = w
+Cuts-walks depth at bytes (e ∷ code) end rest h w =
+    let r = row_of e.1.op in
+    DoesItsPart-from_GoesOn r depth code (Runs (depth_after depth r) code) (Walks (depth_after depth r) code)
+    (Cuts-walks (depth_after depth r) (at + size_of e.1.op) (drop (size_of e.1.op) bytes) code end rest h.2)
+    (lone_at-stood bytes e.1 h.1).taken w
+
 pub IsLone-walks : (file : List ℕ) (code : List Placed) → IsLone file code → Walks 0 code
-IsLone-walks file code l = Walks-from_balanced code (l.size + 1) l.balanced
+IsLone-walks file code l =
+    Cuts-walks 0 1 (code_bytes file l.size) code (l.size + 1) [] l.cut.1 (Runs-from_balanced code (l.size + 1) l.balanced)
 
 pub IsLone-operand : (file : List ℕ) (code : List Placed) → IsLone file code → (k : ℕ) (d : Placed) → k < length code → FitsSigned w32 (get_or code k d).1.arg
 IsLone-operand file code l = Cuts-operand 1 (code_bytes file l.size) code (l.size + 1) [] l.cut.1

@@ -3,15 +3,15 @@ use Rattle.std.proofs.Common.{◌≡◌, ◌≢◌, ◌⊎◌, ℕ, ◌+◌, ◌
 use Rattle.std.proofs.lemmas.List.{at_drop_more, at_drop_all, drop_all, length-drop}
 use Rattle.cil_body.specs.declared.opcode.Two.{Two}
 use Rattle.cil_body.specs.declared.opcode.Row.{Row}
-use Rattle.cil_body.specs.declared.opcode.Row.TheVariants.{Load, Binary, Return}
+use Rattle.cil_body.specs.declared.opcode.Row.TheVariants.{Load, Binary, Return, Beyond}
 use Rattle.cil_body.specs.declared.instruction.Simple.{Simple}
 use Rattle.cil_body.specs.declared.standalone.LoneFault.{LoneFault}
 use Rattle.cil_body.specs.declared.standalone.LoneFault.TheVariants.{BadHeader, Truncated, NotYet, Underflow, BadReturn, Trailing}
 use Rattle.cil_body.specs.Opcode.{row_of, size_of}
 use Rattle.cil_body.specs.Cut.{Placed, IsConsecutive}
-use Rattle.cil_body.specs.Lone.{depth_after, IsOperator, IsReturn, Stands, HasNoReturn, IsFineBefore, IsBalanced, IsBreak, DoesItsPart, Walks}
+use Rattle.cil_body.specs.Lone.{depth_after, IsOperator, IsReturn, Stands, HasNoReturn, IsFineBefore, IsBalanced, IsBreak}
 use Rattle.cil_body.proofs.Cut.{consecutive_le, consecutive_place}
-use Rattle.cil_body.proofs.Walk.{UnderflowsFrom, ReturnsBadlyFrom, peel_underflow, peel_return, push_underflow, push_return, first_underflows, first_returns_badly, HasNoReturn-nil, HasNoReturn-tail, HasNoReturn-cons, underflows_from, underflows_to, returns_badly_from, returns_badly_to, balanced_from_Walks}
+use Rattle.cil_body.proofs.Walk.{GoesOn, Runs, UnderflowsFrom, ReturnsBadlyFrom, peel_underflow, peel_return, push_underflow, push_return, first_underflows, first_returns_badly, HasNoReturn-nil, HasNoReturn-tail, HasNoReturn-cons, underflows_from, underflows_to, returns_badly_from, returns_badly_to, balanced_from_Runs}
 
 -- what an instruction does wrong, or what is wrong later
 abbrev pub break_at : Row → ℕ → ℕ → List Placed → Option LoneFault → Option LoneFault
@@ -19,6 +19,7 @@ break_at (Load source) depth place code later = later
 break_at (Binary two) depth place code later = cond (ltb depth 2) (Some (Underflow place)) later
 break_at Return depth place [] later = cond (eqb depth 1) None (Some (BadReturn place))
 break_at Return depth place (e ∷ code) later = Some (BadReturn place)
+break_at Beyond depth place code later = later
 
 -- what code does wrong first
 abbrev pub first_break : ℕ → List Placed → ℕ → Option LoneFault
@@ -27,23 +28,25 @@ first_break depth (e ∷ code) end =
     break_at (row_of e.1.op) depth e.0 code (first_break (depth_after depth (row_of e.1.op)) code end)
 
 break_at-none :
-    (r : Row) (depth place : ℕ) (code : List Placed) (later : Option LoneFault) → break_at r depth place code later ≡ None → DoesItsPart r depth code (later ≡ None)
+    (r : Row) (depth place : ℕ) (code : List Placed) (later : Option LoneFault) → break_at r depth place code later ≡ None → GoesOn r depth code (later ≡ None)
 break_at-none (Load s) depth place code later h = h
 break_at-none (Binary t) depth place code later h = grind arith
 break_at-none Return depth place [] later h = grind arith
 break_at-none Return depth place (e ∷ code) later h = cc
+break_at-none Beyond depth place code later h = h
 
-DoesItsPart-map : (r : Row) (depth : ℕ) (code : List Placed) (V W : Type 0) → (V → W) → DoesItsPart r depth code V → DoesItsPart r depth code W
-DoesItsPart-map (Load s) depth code V W f h = f h
-DoesItsPart-map (Binary t) depth code V W f h = (h.0, f h.1)
-DoesItsPart-map Return depth code V W f h = h
+GoesOn-map : (r : Row) (depth : ℕ) (code : List Placed) (V W : Type 0) → (V → W) → GoesOn r depth code V → GoesOn r depth code W
+GoesOn-map (Load s) depth code V W f h = f h
+GoesOn-map (Binary t) depth code V W f h = (h.0, f h.1)
+GoesOn-map Return depth code V W f h = h
+GoesOn-map Beyond depth code V W f h = f h
 
-pub first_break-none : (depth : ℕ) (code : List Placed) (end : ℕ) → first_break depth code end ≡ None → Walks depth code
+pub first_break-none : (depth : ℕ) (code : List Placed) (end : ℕ) → first_break depth code end ≡ None → Runs depth code
 first_break-none depth [] end h = cc
 first_break-none depth (e ∷ code) end h =
     let r = row_of e.1.op in
     let later = first_break (depth_after depth r) code end in
-    DoesItsPart-map r depth code (later ≡ None) (Walks (depth_after depth r) code)
+    GoesOn-map r depth code (later ≡ None) (Runs (depth_after depth r) code)
     (first_break-none (depth_after depth r) code end)
     (break_at-none r depth e.0 code later h)
 
@@ -76,6 +79,7 @@ break_at-some Return depth place [] later f h =
     let w = break_return depth place f h in
     inr (inr (tt, inl w.0, w.1))
 break_at-some Return depth place (e ∷ code) later f h = inr (inr (tt, inr (λ x. cc), cc))
+break_at-some Beyond depth place code later f h = inl (λ o. absurd o, λ o. o, h)
 
 -- `IsFineBefore`, begun at a depth
 abbrev FineFrom : ℕ → List Placed → ℕ → ℕ → Type 0
@@ -168,7 +172,7 @@ pub IsBreak-from_walk : (code : List Placed) (end : ℕ) (f : LoneFault) → IsC
 IsBreak-from_walk code end f c h = break_to code end f (first_break-some 0 1 code end f c h)
 
 pub IsBalanced-from_walk : (code : List Placed) (end : ℕ) → first_break 0 code end ≡ None → IsBalanced code end
-IsBalanced-from_walk code end h = balanced_from_Walks code end (first_break-none 0 code end h)
+IsBalanced-from_walk code end h = balanced_from_Runs code end (first_break-none 0 code end h)
 
 -- what a walk does at the instruction that it has come to
 break_binary_here : (depth place : ℕ) (later : Option LoneFault) → depth < 2 → cond (ltb depth 2) (Some (Underflow place)) later ≡ Some (Underflow place)

@@ -1,14 +1,14 @@
 -- A cut is grown at its end, is the only one of its bytes, and its places rise.
 use Rattle.std.proofs.Common.{◌≡◌, ℕ, ◌+◌, ◌<◌, ◌≤◌, List, [], ◌∷◌, ◌++◌, drop, Ok, refl, sym, ◌∙◌, ap, subst, arith}
 use Rattle.cil_body.specs.declared.opcode.Op.{Op}
+use Rattle.cil_body.specs.declared.opcode.Op.TheVariants.{LdcI4S, LdcI4}
 use Rattle.cil_body.specs.declared.instruction.Simple.{Simple}
 use Rattle.cil_body.specs.Opcode.{size_of}
-use Rattle.cil_body.specs.Instruction.{instruction_at}
-use Rattle.cil_body.specs.Cut.{Placed, Cuts, IsConsecutive}
+use Rattle.cil_body.specs.Cut.{Placed, Cuts, IsConsecutive, lone_at}
 
 -- no instruction stands at these bytes
 abbrev pub HasNone : List ℕ → Type 0
-HasNone bytes = (i : Simple) → instruction_at bytes ≡ Ok i → ⊥
+HasNone bytes = (i : Simple) → lone_at bytes ≡ Ok i → ⊥
 
 pub HasNone-nil : HasNone []
 HasNone-nil i h = cc
@@ -21,9 +21,9 @@ placed_eq a b i j p q =
 
 -- one more instruction behind a cut
 pub Cuts-push :
-    (at : ℕ) (bytes : List ℕ) (code : List Placed) (end : ℕ) (rest : List ℕ) (i : Simple) → Cuts at bytes code end rest → instruction_at rest ≡ Ok i → Cuts at bytes (code ++ (end, i) ∷ []) (end + size_of i.op) (drop (size_of i.op) rest)
+    (at : ℕ) (bytes : List ℕ) (code : List Placed) (end : ℕ) (rest : List ℕ) (i : Simple) → Cuts at bytes code end rest → lone_at rest ≡ Ok i → Cuts at bytes (code ++ (end, i) ∷ []) (end + size_of i.op) (drop (size_of i.op) rest)
 Cuts-push at bytes [] end rest i h k =
-    (h.0, ap instruction_at (sym h.1) ∙ k, (ap (λ n. n + size_of i.op) h.0, ap (drop (size_of i.op)) h.1))
+    (h.0, ap lone_at (sym h.1) ∙ k, (ap (λ n. n + size_of i.op) h.0, ap (drop (size_of i.op)) h.1))
 Cuts-push at bytes (e ∷ code) end rest i h k =
     (h.0, h.1, Cuts-push (at + size_of e.1.op) (drop (size_of e.1.op) bytes) code end rest i h.2 k)
 
@@ -31,8 +31,8 @@ Cuts-push at bytes (e ∷ code) end rest i h k =
 pub Cuts-unique :
     (at : ℕ) (bytes : List ℕ) (code : List Placed) (end : ℕ) (rest : List ℕ) (other : List Placed) (end' : ℕ) (rest' : List ℕ) → Cuts at bytes code end rest → HasNone rest → Cuts at bytes other end' rest' → HasNone rest' → (code ≡ other) × (end ≡ end') × (rest ≡ rest')
 Cuts-unique at bytes [] end rest [] end' rest' h n k m = (refl, h.0 ∙ sym k.0, h.1 ∙ sym k.1)
-Cuts-unique at bytes [] end rest (f ∷ other) end' rest' h n k m = absurd (n f.1 (ap instruction_at h.1 ∙ k.1))
-Cuts-unique at bytes (e ∷ code) end rest [] end' rest' h n k m = absurd (m e.1 (ap instruction_at k.1 ∙ h.1))
+Cuts-unique at bytes [] end rest (f ∷ other) end' rest' h n k m = absurd (n f.1 (ap lone_at h.1 ∙ k.1))
+Cuts-unique at bytes (e ∷ code) end rest [] end' rest' h n k m = absurd (m e.1 (ap lone_at k.1 ∙ h.1))
 Cuts-unique at bytes (e ∷ code) end rest (f ∷ other) end' rest' h n k m =
     let same : e.1 ≡ f.1 = cc (h.1, k.1) in
     let tail : Cuts (at + size_of e.1.op) (drop (size_of e.1.op) bytes) other end' rest' =
@@ -48,7 +48,9 @@ Cuts-consecutive at bytes (e ∷ code) end rest h =
     (h.0, Cuts-consecutive (at + size_of e.1.op) (drop (size_of e.1.op) bytes) code end rest h.2)
 
 pub size_of-positive : (op : Op) → 0 < size_of op
-size_of-positive op = omega arith
+size_of-positive LdcI4S = omega arith
+size_of-positive LdcI4 = omega arith
+size_of-positive _ = omega arith
 
 pub consecutive_le : (at : ℕ) (code : List Placed) (end : ℕ) → IsConsecutive at code end → at ≤ end
 consecutive_le at [] end h = omega arith

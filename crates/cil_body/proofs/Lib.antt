@@ -1,3 +1,4 @@
+pub mod Table
 pub mod Cut
 pub mod Walk
 pub mod Break

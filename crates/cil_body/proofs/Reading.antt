@@ -1,24 +1,23 @@
 -- A file has one reading: one code, or one fault.
 use Rattle.std.proofs.Common.{◌≡◌, ◌⊎◌, ℕ, ◌+◌, ◌<◌, List, [], ◌∷◌, ◌++◌, length, Result, Err, refl, sym, ◌∙◌, ap, subst, inl, inr, arith}
 use Rattle.cil_body.specs.declared.opcode.Row.{Row}
-use Rattle.cil_body.specs.declared.opcode.Row.TheVariants.{Load, Binary, Return}
+use Rattle.cil_body.specs.declared.opcode.Row.TheVariants.{Load, Binary, Return, Beyond}
 use Rattle.cil_body.specs.declared.instruction.Simple.{Simple}
-use Rattle.cil_body.specs.declared.instruction.BodyCause.{BodyCause}
-use Rattle.cil_body.specs.declared.instruction.BodyCause.TheVariants.{NotYet as NotYetHere, Truncated as TruncatedHere}
+use Rattle.cil_body.specs.declared.standalone.Stop.{Stop}
+use Rattle.cil_body.specs.declared.standalone.Stop.TheVariants.{NotYet as NotYetHere, Truncated as TruncatedHere}
 use Rattle.cil_body.specs.declared.standalone.LoneFault.{LoneFault}
 use Rattle.cil_body.specs.declared.standalone.LoneFault.TheVariants.{BadHeader, Truncated, NotYet, Underflow, BadReturn, Trailing}
 use Rattle.cil_body.specs.Opcode.{row_of}
-use Rattle.cil_body.specs.Instruction.{instruction_at}
-use Rattle.cil_body.specs.Cut.{Placed, Cuts, IsConsecutive}
-use Rattle.cil_body.specs.Lone.{HasHeader, code_bytes, IsWhole, IsCut, IsOperator, IsReturn, Underflows, IsBadReturn, IsFineBefore, IsBalanced, IsBreak, IsLone, Stops, IsLoneFault}
+use Rattle.cil_body.specs.Cut.{Placed, Cuts, IsConsecutive, lone_at}
+use Rattle.cil_body.specs.Lone.{HasHeader, code_bytes, IsWhole, IsCut, IsOperator, IsReturn, Underflows, IsBadReturn, IsFineBefore, IsBalanced, IsBreak, IsLone, Stops, IsLoneFault, stop_of}
 use Rattle.cil_body.proofs.Cut.{HasNone, HasNone-nil, Cuts-unique, Cuts-consecutive, consecutive_place, consecutive_once}
 
 pub one_size : (file : List ℕ) (size other : ℕ) → HasHeader file size → HasHeader file other → size ≡ other
 one_size [] size other h k = absurd h
 one_size (b ∷ bytes) size other h k = sym h.1 ∙ k.1
 
-pub none_from_fault : (bytes : List ℕ) (cause : BodyCause) → instruction_at bytes ≡ Err cause → HasNone bytes
-none_from_fault bytes cause h i k = cc
+pub none_from_fault : (bytes : List ℕ) (stop : Stop) → lone_at bytes ≡ Err stop → HasNone bytes
+none_from_fault bytes stop h i k = cc
 
 -- a file is cut in one way
 pub one_cut :
@@ -80,6 +79,7 @@ operator_returns_not : (r : Row) → IsOperator r → IsReturn r → ⊥
 operator_returns_not (Load s) o h = o
 operator_returns_not (Binary t) o h = h
 operator_returns_not Return o h = o
+operator_returns_not Beyond o h = o
 
 -- an operator's place is no bad return
 pub underflow_or_return : (code : List Placed) (end place : ℕ) → IsConsecutive 1 code end → Underflows code place → IsBadReturn code end place → ⊥
@@ -125,18 +125,13 @@ ReachesBalance file = (size : ℕ) × (code : List Placed) × IsCut file size co
 abbrev pub ReachesEnd : List ℕ → Type 0
 ReachesEnd file = (size : ℕ) × (code : List Placed) × IsCut file size code × IsBalanced code (size + 1)
 
--- the fault of a stop, by its cause
-abbrev pub stop_fault : BodyCause → ℕ → LoneFault
-stop_fault (NotYetHere byte) place = NotYet byte place
-stop_fault TruncatedHere place = Truncated place
-
 pub record IsStop (file : List ℕ) (fault : LoneFault) : Type 0 where
   pub place : ℕ
   pub bytes : List ℕ
-  pub cause : BodyCause
+  pub stop : Stop
   pub stops : Stops file place bytes
-  pub cannot : instruction_at bytes ≡ Err cause
-  pub is : fault ≡ stop_fault cause place
+  pub cannot : lone_at bytes ≡ Err stop
+  pub is : fault ≡ stop_of stop place
 
 pub record IsBroken (file : List ℕ) (fault : LoneFault) : Type 0 where
   pub size : ℕ
@@ -172,7 +167,7 @@ balance_of_end file r = (r.0, r.1, r.2)
 IsStop-ends : (file : List ℕ) (fault : LoneFault) → IsStop file fault → Ends file fault
 IsStop-ends file fault s =
     at_stop (s.stops.size, s.stops.whole)
-    (λ b. cut_stops_not file b.0 b.1 s.place s.bytes b.2 s.stops (none_from_fault s.bytes s.cause s.cannot)) s
+    (λ b. cut_stops_not file b.0 b.1 s.place s.bytes b.2 s.stops (none_from_fault s.bytes s.stop s.cannot)) s
 
 not_balanced : (code : List Placed) (end : ℕ) (fault : LoneFault) → BreaksAt code end fault → IsBalanced code end → ⊥
 not_balanced code end fault b all =
@@ -201,11 +196,11 @@ IsLoneFault-ends file (Truncated place) f =
     elim f [
       | inl w ↦ short_ends file place w.0 w.1 w.2 w.3
       | inr w ↦ IsStop-ends file (Truncated place)
-          (record { place = place; bytes = w.0; cause = TruncatedHere; stops = w.1; cannot = w.2; is = refl })
+          (record { place = place; bytes = w.0; stop = TruncatedHere; stops = w.1; cannot = w.2; is = refl })
     ]
 IsLoneFault-ends file (NotYet byte place) f =
     IsStop-ends file (NotYet byte place)
-    (record { place = place; bytes = f.0; cause = NotYetHere byte; stops = f.1; cannot = f.2; is = refl })
+    (record { place = place; bytes = f.0; stop = NotYetHere byte; stops = f.1; cannot = f.2; is = refl })
 IsLoneFault-ends file (Underflow place) f =
     IsBroken-ends file (Underflow place)
     (record {
@@ -237,10 +232,10 @@ IsLoneFault-ends file (Trailing place) f =
 
 one_stop_fault : (file : List ℕ) (fault other : LoneFault) → IsStop file fault → IsStop file other → fault ≡ other
 one_stop_fault file fault other s t =
-    let r = one_stop file s.place t.place s.bytes t.bytes s.stops (none_from_fault s.bytes s.cause s.cannot) t.stops (none_from_fault t.bytes t.cause t.cannot) in
-    let errs : ◌≡◌ {A = Result Simple BodyCause} (Err s.cause) (Err t.cause) = sym s.cannot ∙ ap instruction_at r.1 ∙ t.cannot in
-    let cause : s.cause ≡ t.cause = cc in
-    s.is ∙ ap (λ (x : BodyCause). stop_fault x s.place) cause ∙ ap (λ (p : ℕ). stop_fault t.cause p) r.0 ∙ sym t.is
+    let r = one_stop file s.place t.place s.bytes t.bytes s.stops (none_from_fault s.bytes s.stop s.cannot) t.stops (none_from_fault t.bytes t.stop t.cannot) in
+    let errs : ◌≡◌ {A = Result Simple Stop} (Err s.stop) (Err t.stop) = sym s.cannot ∙ ap lone_at r.1 ∙ t.cannot in
+    let stop : s.stop ≡ t.stop = cc in
+    s.is ∙ ap (λ (x : Stop). stop_of x s.place) stop ∙ ap (λ (p : ℕ). stop_of t.stop p) r.0 ∙ sym t.is
 
 one_broken_fault : (file : List ℕ) (fault other : LoneFault) → IsBroken file fault → IsBroken file other → fault ≡ other
 one_broken_fault file fault other b d =

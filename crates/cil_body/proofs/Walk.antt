@@ -2,11 +2,11 @@
 -- first instruction, begun at another depth.
 use Rattle.std.proofs.Common.{◌≡◌, ◌≢◌, ◌⊎◌, ℕ, ◌<◌, ◌≤◌, List, [], ◌∷◌, ◌++◌, refl, sym, ◌∙◌, ap, subst, inl, inr, arith}
 use Rattle.cil_body.specs.declared.opcode.Row.{Row}
-use Rattle.cil_body.specs.declared.opcode.Row.TheVariants.{Load, Binary, Return}
+use Rattle.cil_body.specs.declared.opcode.Row.TheVariants.{Load, Binary, Return, Beyond}
 use Rattle.cil_body.specs.declared.instruction.Simple.{Simple}
 use Rattle.cil_body.specs.Opcode.{row_of}
 use Rattle.cil_body.specs.Cut.{Placed}
-use Rattle.cil_body.specs.Lone.{depth_after, depth_of, IsOperator, IsReturn, Stands, Underflows, ReturnsBadly, HasNoReturn, IsBalanced, DoesItsPart, Walks}
+use Rattle.cil_body.specs.Lone.{depth_after, depth_of, IsOperator, IsReturn, Stands, Underflows, ReturnsBadly, HasNoReturn, IsBalanced}
 
 -- `Underflows`, begun at a depth
 pub record UnderflowsFrom (depth : ℕ) (code : List Placed) (place : ℕ) : Type 0 where
@@ -139,63 +139,79 @@ HasNoReturn-cons e code h n (b ∷ before) after place i s r =
     let tail : code ≡ before ++ (place, i) ∷ after = cc in
     n before after place i tail r
 
+-- An instruction on a stack of `depth` slots does its part as far as the stack goes, where `code` stands behind it and
+-- `goes_on` says that `code` does too. One that a lone body hasn't changes nothing.
+abbrev pub GoesOn : Row → ℕ → List Placed → Type 0 → Type 0
+GoesOn (Load source) depth code goes_on = goes_on
+GoesOn (Binary two) depth code goes_on = (2 ≤ depth) × goes_on
+GoesOn Return depth code goes_on = (depth ≡ 1) × (code ≡ [])
+GoesOn Beyond depth code goes_on = goes_on
+
+-- `Walks`, where the code may have instructions that a lone body hasn't
+abbrev pub Runs : ℕ → List Placed → Type 0
+Runs depth [] = ⊥
+Runs depth (e ∷ code) = GoesOn (row_of e.1.op) depth code (Runs (depth_after depth (row_of e.1.op)) code)
+
 -- what a step of a walk says, without its row
 module _ (depth : ℕ) (code : List Placed) (W : Type 0) where
-  DoesItsPart-says :
-      (r : Row) → DoesItsPart r depth code W → (IsOperator r → 2 ≤ depth) × (IsReturn r → (depth ≡ 1) × (code ≡ [])) × ((IsReturn r → ⊥) → W)
-  DoesItsPart-says (Load s) w = (λ o. absurd o, λ o. absurd o, λ _. w)
-  DoesItsPart-says (Binary t) w = (λ _. w.0, λ o. absurd o, λ _. w.1)
-  DoesItsPart-says Return w = (λ o. absurd o, λ _. w, λ n. absurd (n tt))
+  GoesOn-says :
+      (r : Row) → GoesOn r depth code W → (IsOperator r → 2 ≤ depth) × (IsReturn r → (depth ≡ 1) × (code ≡ [])) × ((IsReturn r → ⊥) → W)
+  GoesOn-says (Load s) w = (λ o. absurd o, λ o. absurd o, λ _. w)
+  GoesOn-says (Binary t) w = (λ _. w.0, λ o. absurd o, λ _. w.1)
+  GoesOn-says Return w = (λ o. absurd o, λ _. w, λ n. absurd (n tt))
+  GoesOn-says Beyond w = (λ o. absurd o, λ o. absurd o, λ _. w)
 
-  DoesItsPart-from :
-      (r : Row) → (IsOperator r → 2 ≤ depth) → (IsReturn r → (depth ≡ 1) × (code ≡ [])) → ((IsReturn r → ⊥) → W) → DoesItsPart r depth code W
-  DoesItsPart-from (Load s) o r w = w (λ x. x)
-  DoesItsPart-from (Binary t) o r w = (o tt, w (λ x. x))
-  DoesItsPart-from Return o r w = r tt
+  GoesOn-from :
+      (r : Row) → (IsOperator r → 2 ≤ depth) → (IsReturn r → (depth ≡ 1) × (code ≡ [])) → ((IsReturn r → ⊥) → W) → GoesOn r depth code W
+  GoesOn-from (Load s) o r w = w (λ x. x)
+  GoesOn-from (Binary t) o r w = (o tt, w (λ x. x))
+  GoesOn-from Return o r w = r tt
+  GoesOn-from Beyond o r w = w (λ x. x)
 
 pub is_return : (r : Row) → IsReturn r ⊎ (IsReturn r → ⊥)
 is_return (Load s) = inr (λ x. x)
 is_return (Binary t) = inr (λ x. x)
 is_return Return = inl tt
+is_return Beyond = inr (λ x. x)
 
 pub nothing_stands : (before after : List Placed) (place : ℕ) (i : Simple) → [] ≡ before ++ (place, i) ∷ after → ⊥
 nothing_stands [] after place i s = cc
 nothing_stands (b ∷ before) after place i s = cc
 
--- code that walks does nothing wrong
-pub Walks-no_underflow : (depth : ℕ) (code : List Placed) (place : ℕ) → Walks depth code → UnderflowsFrom depth code place → ⊥
-Walks-no_underflow depth [] place w u = w
-Walks-no_underflow depth (e ∷ code) place w u =
-    let says = DoesItsPart-says depth code (Walks (depth_after depth (row_of e.1.op)) code) (row_of e.1.op) w in
+-- code that runs does nothing wrong
+pub Runs-no_underflow : (depth : ℕ) (code : List Placed) (place : ℕ) → Runs depth code → UnderflowsFrom depth code place → ⊥
+Runs-no_underflow depth [] place w u = w
+Runs-no_underflow depth (e ∷ code) place w u =
+    let says = GoesOn-says depth code (Runs (depth_after depth (row_of e.1.op)) code) (row_of e.1.op) w in
     elim (peel_underflow depth e code place u) [
       | inl f ↦ let two : 2 ≤ depth = says.0 f.0 in
           let less : depth < 2 = f.2 in
           absurd (omega arith)
       | inr v ↦ elim (is_return (row_of e.1.op)) [
         | inl r ↦ nothing_stands v.before v.after place v.i (sym (says.1 r).1 ∙ v.stands)
-        | inr n ↦ Walks-no_underflow (depth_after depth (row_of e.1.op)) code place (says.2 n) v
+        | inr n ↦ Runs-no_underflow (depth_after depth (row_of e.1.op)) code place (says.2 n) v
       ]
     ]
 
-pub Walks-no_bad_return : (depth : ℕ) (code : List Placed) (place : ℕ) → Walks depth code → ReturnsBadlyFrom depth code place → ⊥
-Walks-no_bad_return depth [] place w u = w
-Walks-no_bad_return depth (e ∷ code) place w u =
-    let says = DoesItsPart-says depth code (Walks (depth_after depth (row_of e.1.op)) code) (row_of e.1.op) w in
+pub Runs-no_bad_return : (depth : ℕ) (code : List Placed) (place : ℕ) → Runs depth code → ReturnsBadlyFrom depth code place → ⊥
+Runs-no_bad_return depth [] place w u = w
+Runs-no_bad_return depth (e ∷ code) place w u =
+    let says = GoesOn-says depth code (Runs (depth_after depth (row_of e.1.op)) code) (row_of e.1.op) w in
     elim (peel_return depth e code place u) [
       | inl f ↦ elim f.2 [ inl d ↦ d (says.1 f.0).0 | inr c ↦ c (says.1 f.0).1 ]
       | inr v ↦ elim (is_return (row_of e.1.op)) [
         | inl r ↦ nothing_stands v.before v.after place v.i (sym (says.1 r).1 ∙ v.stands)
-        | inr n ↦ Walks-no_bad_return (depth_after depth (row_of e.1.op)) code place (says.2 n) v
+        | inr n ↦ Runs-no_bad_return (depth_after depth (row_of e.1.op)) code place (says.2 n) v
       ]
     ]
 
-pub Walks-returns : (depth : ℕ) (code : List Placed) → Walks depth code → HasNoReturn code → ⊥
-Walks-returns depth [] w n = w
-Walks-returns depth (e ∷ code) w n =
-    let says = DoesItsPart-says depth code (Walks (depth_after depth (row_of e.1.op)) code) (row_of e.1.op) w in
+pub Runs-returns : (depth : ℕ) (code : List Placed) → Runs depth code → HasNoReturn code → ⊥
+Runs-returns depth [] w n = w
+Runs-returns depth (e ∷ code) w n =
+    let says = GoesOn-says depth code (Runs (depth_after depth (row_of e.1.op)) code) (row_of e.1.op) w in
     elim (is_return (row_of e.1.op)) [
       | inl r ↦ n [] code e.0 e.1 refl r
-      | inr m ↦ Walks-returns (depth_after depth (row_of e.1.op)) code (says.2 m) (HasNoReturn-tail e code n)
+      | inr m ↦ Runs-returns (depth_after depth (row_of e.1.op)) code (says.2 m) (HasNoReturn-tail e code n)
     ]
 
 pub at_least_two : (depth : ℕ) → (depth < 2 → ⊥) → 2 ≤ depth
@@ -208,15 +224,15 @@ pub just_nil : (code : List Placed) → (code ≢ [] → ⊥) → code ≡ []
 just_nil [] h = refl
 just_nil (e ∷ code) h = absurd (h (λ x. cc))
 
--- code that does nothing wrong walks
-pub Walks-from :
-    (depth : ℕ) (code : List Placed) → ((place : ℕ) → UnderflowsFrom depth code place → ⊥) → ((place : ℕ) → ReturnsBadlyFrom depth code place → ⊥) → (HasNoReturn code → ⊥) → Walks depth code
-Walks-from depth [] u r n = n HasNoReturn-nil
-Walks-from depth (e ∷ code) u r n =
-    DoesItsPart-from depth code (Walks (depth_after depth (row_of e.1.op)) code) (row_of e.1.op)
+-- code that does nothing wrong runs
+pub Runs-from :
+    (depth : ℕ) (code : List Placed) → ((place : ℕ) → UnderflowsFrom depth code place → ⊥) → ((place : ℕ) → ReturnsBadlyFrom depth code place → ⊥) → (HasNoReturn code → ⊥) → Runs depth code
+Runs-from depth [] u r n = n HasNoReturn-nil
+Runs-from depth (e ∷ code) u r n =
+    GoesOn-from depth code (Runs (depth_after depth (row_of e.1.op)) code) (row_of e.1.op)
     (λ o. at_least_two depth (λ d. u e.0 (first_underflows depth e code e.0 o refl d)))
     (λ o. (just_one depth (λ d. r e.0 (first_returns_badly depth e code e.0 o refl (inl d))), just_nil code (λ d. r e.0 (first_returns_badly depth e code e.0 o refl (inr d)))))
-    (λ m. Walks-from (depth_after depth (row_of e.1.op)) code (λ place v. u place (push_underflow depth e code place v)) (λ place v. r place (push_return depth e code place v)) (λ t. n (HasNoReturn-cons e code m t)))
+    (λ m. Runs-from (depth_after depth (row_of e.1.op)) code (λ place v. u place (push_underflow depth e code place v)) (λ place v. r place (push_return depth e code place v)) (λ t. n (HasNoReturn-cons e code m t)))
 
 -- from the empty stack, these are the definitions
 pub underflows_from : (code : List Placed) (place : ℕ) → Underflows code place → UnderflowsFrom 0 code place
@@ -235,17 +251,17 @@ pub returns_badly_to : (code : List Placed) (place : ℕ) → ReturnsBadlyFrom 0
 returns_badly_to code place u =
     record { before = u.before; after = u.after; i = u.i; stands = u.stands; returns = u.returns; badly = u.badly }
 
-pub Walks-from_balanced : (code : List Placed) (end : ℕ) → IsBalanced code end → Walks 0 code
-Walks-from_balanced code end b =
-    Walks-from 0 code (λ place u. (b place).0 (underflows_to code place u))
+pub Runs-from_balanced : (code : List Placed) (end : ℕ) → IsBalanced code end → Runs 0 code
+Runs-from_balanced code end b =
+    Runs-from 0 code (λ place u. (b place).0 (underflows_to code place u))
     (λ place u. (b place).1 (inl (returns_badly_to code place u)))
     (λ n. (b end).1 (inr (refl, n)))
 
-pub balanced_from_Walks : (code : List Placed) (end : ℕ) → Walks 0 code → IsBalanced code end
-balanced_from_Walks code end w place = (
-  λ u. Walks-no_underflow 0 code place w (underflows_from code place u),
+pub balanced_from_Runs : (code : List Placed) (end : ℕ) → Runs 0 code → IsBalanced code end
+balanced_from_Runs code end w place = (
+  λ u. Runs-no_underflow 0 code place w (underflows_from code place u),
   λ r. elim r [
-    | inl u ↦ Walks-no_bad_return 0 code place w (returns_badly_from code place u)
-    | inr n ↦ Walks-returns 0 code w n.1
+    | inl u ↦ Runs-no_bad_return 0 code place w (returns_badly_from code place u)
+    | inr n ↦ Runs-returns 0 code w n.1
   ],
 )

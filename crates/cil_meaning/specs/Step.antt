@@ -3,7 +3,7 @@
 use Rattle.std.specs.Prelude.{ℕ, ◌+◌, ◌^◌, ℤ, ◌+ℤ◌, ◌-ℤ◌, ◌*ℤ◌, pos, negsuc, List, [], ◌∷◌, Option, None, Some, nat_lt, ◌==◌, if◌then◌else◌, slice_get, find, option_map}
 use Rattle.std.specs.Int.{int_wrap, w32}
 use Rattle.cil_body.specs.declared.opcode.Row.{Row}
-use Rattle.cil_body.specs.declared.opcode.Row.TheVariants.{Load, Binary, Return}
+use Rattle.cil_body.specs.declared.opcode.Row.TheVariants.{Load, Binary, Return, Beyond}
 use Rattle.cil_body.specs.declared.opcode.Source.{Source}
 use Rattle.cil_body.specs.declared.opcode.Source.TheVariants.{Argument, Number, Operand}
 use Rattle.cil_body.specs.declared.opcode.Two.{Two}
@@ -54,11 +54,12 @@ return_of (v ∷ []) = Done v
 return_of (v ∷ w ∷ below) = Stuck
 return_of [] = Stuck
 
--- what an instruction does, by its row
+-- what an instruction does, by its row: one that a lone body hasn't is no step
 abbrev pub act_by : Row → Simple → LoneState → LoneStepped
 act_by (Load source) i s = load_of (loaded_of source i.arg s.args) i s
 act_by (Binary two) i s = binary_of (result_of two) i s s.stack
 act_by Return i s = return_of s.stack
+act_by Beyond i s = Stuck
 
 abbrev pub act_of : Simple → LoneState → LoneStepped
 act_of i s = act_by (row_of i.op) i s

@@ -18,6 +18,7 @@ pub(crate) fn act(simple: Simple, state: LoneState) -> Result<LoneStepped, NoMem
         },
         Row::Binary(two) => binary(two, simple, state),
         Row::Return => Ok(returned(state)),
+        Row::Beyond => Ok(LoneStepped::Stuck),
     }
 }
 

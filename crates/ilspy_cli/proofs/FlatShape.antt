@@ -3,7 +3,7 @@ use Rattle.std.proofs.Common.{◌≡◌, ℕ, ◌+◌, ◌-◌, ◌<◌, ◌≤�
 use Rattle.cil_body.specs.declared.opcode.Op.{Op}
 use Rattle.cil_body.specs.declared.opcode.Op.TheVariants as op
 use Rattle.cil_body.specs.declared.opcode.Row.{Row}
-use Rattle.cil_body.specs.declared.opcode.Row.TheVariants.{Load, Binary, Return}
+use Rattle.cil_body.specs.declared.opcode.Row.TheVariants.{Load, Binary, Return, Beyond}
 use Rattle.cil_body.specs.declared.opcode.Source.{Source}
 use Rattle.cil_body.specs.declared.opcode.Source.TheVariants.{Argument, Number, Operand}
 use Rattle.cil_body.specs.declared.opcode.Two.{Two}
@@ -53,6 +53,7 @@ abbrev pub IsFineRow : Row → ℤ → Type 0
 IsFineRow (Load source) arg = IsFineSource source arg
 IsFineRow (Binary two) arg = Unit {0}
 IsFineRow Return arg = Unit {0}
+IsFineRow Beyond arg = Unit {0}
 
 -- each instruction loads so
 pub fine_row : (o : Op) (arg : ℤ) → FitsSigned w32 arg → IsFineRow (row_of o) arg
@@ -76,6 +77,7 @@ fine_row op.Add arg fits = tt
 fine_row op.Sub arg fits = tt
 fine_row op.Mul arg fits = tt
 fine_row op.Ret arg fits = tt
+fine_row _ arg fits = tt
 
 -- one more variable
 pub more_below : (next : ℕ) (slots : List ℕ) → AreBelow next slots → AreBelow (next + 1) slots
@@ -116,6 +118,7 @@ row_flat (Binary two) arg depth code fine rest walks next (y ∷ x ∷ slots) le
     (rest (depth - 1) walks.1 (next + 1) (next ∷ slots) (omega arith) (omega arith, more_below next slots below.1.1) (omega arith))
 row_flat Return arg depth code fine rest walks next [] len below four = absurd (omega (arith, walks.0))
 row_flat Return arg depth code fine rest walks next (v ∷ slots) len below four = last next v below.0
+row_flat Beyond arg depth code fine rest walks next slots len below four = absurd walks
 
 -- the statements of code that walks are flat
 pub code_flat : (code : List Placed) (depth : ℕ) → OperandsFit code → Walks depth code → FlatFrom depth code

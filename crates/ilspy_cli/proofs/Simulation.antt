@@ -3,7 +3,7 @@ use Rattle.std.proofs.Common.{◌≡◌, ℕ, zero, suc, ◌+◌, ◌-◌, ◌^�
 use Rattle.std.proofs.lemmas.Option.{slice_get-get_or}
 use Rattle.std.proofs.lemmas.List.{length-set}
 use Rattle.cil_body.specs.declared.opcode.Row.{Row}
-use Rattle.cil_body.specs.declared.opcode.Row.TheVariants.{Load, Binary, Return}
+use Rattle.cil_body.specs.declared.opcode.Row.TheVariants.{Load, Binary, Return, Beyond}
 use Rattle.cil_body.specs.declared.opcode.Source.{Source}
 use Rattle.cil_body.specs.declared.opcode.Source.TheVariants.{Argument, Number, Operand}
 use Rattle.cil_body.specs.declared.opcode.Two.{Two}
@@ -174,6 +174,7 @@ module _ (whole : List Placed) (end : ℕ) (args : List ℤ) (fits_end : end < 2
   row_agrees Return i depth code fine rest walks at next (x ∷ []) (v ∷ w ∷ stack) σ h same cons len fits = absurd fits.stack_held.1
   row_agrees Return i depth code fine rest walks at next (x ∷ []) (v ∷ []) σ h same cons len fits =
       record { number = v; cil = Ends-done whole _ v h; fuel = 1; cs = RunsTo-return (expr.Var x) [] σ 0 v (Gives-var x σ v fits.stack_held.0) }
+  row_agrees Beyond i depth code fine rest walks at next slots stack σ h same cons len fits = absurd walks
 
   -- code agrees with its statements
   pub code_agrees : (code : List Placed) (depth : ℕ) → OperandsFit code → Walks depth code → RestAgrees depth code

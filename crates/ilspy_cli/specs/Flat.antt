@@ -1,7 +1,7 @@
 -- The flat form of a lone body: each push makes a variable of its own.
 use Rattle.std.specs.Prelude.{◌≡◌, ℕ, ◌+◌, ℤ, false, List, [], ◌∷◌, ◌++◌, Option, Some, None, replicate}
 use Rattle.cil_body.specs.declared.opcode.Row.{Row}
-use Rattle.cil_body.specs.declared.opcode.Row.TheVariants.{Load, Binary, Return}
+use Rattle.cil_body.specs.declared.opcode.Row.TheVariants.{Load, Binary, Return, Beyond}
 use Rattle.cil_body.specs.declared.opcode.Source.{Source}
 use Rattle.cil_body.specs.declared.opcode.Source.TheVariants.{Argument, Number, Operand}
 use Rattle.cil_body.specs.declared.opcode.Two.{Two}
@@ -44,6 +44,7 @@ pushed (Binary two) arg (y ∷ x ∷ below) = Some (expr.Binary (sign_of two) fa
 pushed (Binary two) arg (y ∷ []) = None
 pushed (Binary two) arg [] = None
 pushed Return arg slots = None
+pushed Beyond arg slots = None
 
 -- a row pushes this value, with the slots that it takes gone, or nothing, with all of them there
 abbrev pub Pushes : Row → ℤ → List ℕ → List ℕ → Option Expr → Type 0

@@ -65,6 +65,7 @@ fn pushed(alloc: Global, simple: Simple, slots: &mut Stack<u32>) -> Result<Optio
         Row::Load(source) => Ok(Some(loaded(source, simple.arg))),
         Row::Binary(two) => computed(alloc, two, slots),
         Row::Return => Ok(None),
+        Row::Beyond => Ok(None),
     }
 }
 
