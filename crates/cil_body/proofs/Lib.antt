@@ -13,5 +13,5 @@ pub mod OneChain
 pub mod OneBody
 pub mod Ranges
 pub mod OneRegions
-pub mod Ordered
+pub mod SameLists
 pub mod OneTree
