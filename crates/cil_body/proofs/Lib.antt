@@ -5,3 +5,4 @@ pub mod Fields
 pub mod Reading
 pub mod Parts
 pub mod Above
+pub mod SectionFacts

@@ -2,7 +2,7 @@
 
 ghost use Rattle.std.specs.Prelude.{◌≡◌, ◌+◌, ◌≤◌, ◌<◌, ◌^◌, ◌++◌, ◌↔◌, length, All, IfOk, IfErr, OnOk, IfSome, IfNone, IsTrue};
 ghost use Rattle.cil_body.specs.Code.{AreInOrder};
-ghost use Rattle.cil_body.specs.Section.{AreClauses, IsSectionFault, IsSection, IsClause, AreBounds, IsBound, IsClauseBroken, aligned, clause_width, clauses_of, clause_at, fat_clause, small_clause};
+ghost use Rattle.cil_body.specs.Section.{AreClauses, IsSectionFault, IsSection, IsKind, IsClause, AreBounds, IsBound, IsClauseBroken, aligned, clause_width, clauses_of, clause_at, fat_clause, small_clause};
 ghost use Rattle.cil_body.specs.declared.fault.BodyCause.TheVariants.{BadSection};
 ghost use Rattle.cil_body.specs.declared.section.Section.{Section};
 
@@ -199,9 +199,16 @@ fn is_clause(clause: RawClause, starts: &[u32], size: u32) -> bool
     requires { AreInOrder starts.now }
     ensures { IsTrue result ↔ IsClause starts.now size clause }
 {
-    matches!(clause.kind, 0 | 1 | 2 | 4)
+    is_kind(clause.kind)
         && are_bounds(clause.try_at, clause.try_len, starts, size)
         && are_bounds(clause.handler_at, clause.handler_len, starts, size)
+}
+
+// Whether a kind of clause is one of the standard's.
+fn is_kind(kind: u32) -> bool
+    ensures { IsTrue result ↔ IsKind kind }
+{
+    matches!(kind, 0 | 1 | 2 | 4)
 }
 
 // Whether a range isn't empty, and begins and ends where an instruction starts or with the code.
