@@ -112,8 +112,11 @@ abbrev pub IsKind : ℕ → Type 0
 IsKind kind = (kind ≡ 0) ⊎ (kind ≡ 1) ⊎ (kind ≡ 2) ⊎ (kind ≡ 4)
 
 -- of these, catch and finally are taken
+abbrev pub IsTakenKind : ℕ → Type 0
+IsTakenKind kind = (kind ≡ 0) ⊎ (kind ≡ 2)
+
 abbrev pub IsTaken : RawClause → Type 0
-IsTaken c = (c.kind ≡ 0) ⊎ (c.kind ≡ 2)
+IsTaken c = IsTakenKind c.kind
 
 -- a place where an instruction starts, or the code's end
 abbrev pub IsBound : List ℕ → ℕ → ℕ → Type 0
