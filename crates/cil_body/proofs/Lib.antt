@@ -6,3 +6,4 @@ pub mod Reading
 pub mod Parts
 pub mod Above
 pub mod SectionFacts
+pub mod DecodeFacts
