@@ -1,10 +1,9 @@
 -- What a body is made of, and what a fault of its parts says of it.
-use Rattle.std.proofs.Common.{◌≡◌, inl, inr, ℕ, zero, suc, ◌+◌, ◌-◌, ◌<◌, ◌≤◌, Bool, true, false, cond, List, [], ◌∷◌, length, get_or, take, drop, map, Option, None, Some, Result, Ok, Err, refl, sym, ap, ◌∙◌, subst, arith, All, IfErr, length-take, length-drop}
+use Rattle.std.proofs.Common.{◌≡◌, inr, ℕ, zero, suc, ◌+◌, ◌<◌, ◌≤◌, Bool, true, false, cond, List, [], ◌∷◌, length, get_or, drop, map, Option, None, Some, Result, Ok, Err, refl, sym, ap, ◌∙◌, subst, arith, All, IfErr, length-take, length-drop}
 use Rattle.std.proofs.lemmas.Result.{IfErr-at_err}
 use Rattle.dc_base.specs.declared.failure.Or.{Or}
 use Rattle.dc_base.specs.declared.failure.Or.TheVariants.{NoMemory, Fault}
 use Rattle.cil_body.specs.declared.header.Header.{Header}
-use Rattle.cil_body.specs.declared.section.Section.{Section}
 use Rattle.cil_body.specs.declared.section.RawClause.{RawClause}
 use Rattle.cil_body.specs.declared.instruction.Found.{Found}
 use Rattle.cil_body.specs.declared.body.Body.{Body}
@@ -15,10 +14,10 @@ use Rattle.cil_body.specs.declared.fault.BodyCause.{BodyCause}
 use Rattle.cil_body.specs.declared.fault.BodyCause.TheVariants.{BadHeader, TooLong, Truncated, BadOpcode, OutOfProfile, BadTarget, BadSection, OutOfProfileClause}
 use Rattle.cil_body.specs.First.{IsFirstOff}
 use Rattle.cil_body.specs.Opcode.{Line, is_left_out, entry_of}
-use Rattle.cil_body.specs.Instruction.{instruction_at, prefixed, with_code, with_entry, with_line, operand_size}
+use Rattle.cil_body.specs.Instruction.{instruction_at, prefixed, with_code, with_entry}
 use Rattle.cil_body.specs.Code.{Placed, Reads, IsWhole, IsCode, IsAimed, IsCutFault, IsAimFault, AreInOrder, code_of, starts_of, instr_of}
-use Rattle.cil_body.specs.Section.{AreClauses, IsSectionFault, IsTaken, HasSections, all_clauses, IsClause, IsBadSection, sections_place}
-use Rattle.cil_body.specs.Body.{IsBody, IsRefused, IsWrong, IsClauseFault, IsAimedCode, HasClauses, StopsAt, clause_of, body_of}
+use Rattle.cil_body.specs.Section.{AreClauses, IsSectionFault, IsTaken, all_clauses, IsClause, IsBadSection, sections_place}
+use Rattle.cil_body.specs.Body.{IsBody, IsRefused, IsWrong, IsClauseFault, IsAimedCode, HasClauses, StopsAt, clause_of}
 
 -- ---- the places of the instructions rise
 
@@ -44,7 +43,13 @@ length-code bytes limit h whole =
     let within : h.start + h.size ≤ length bytes = whole.within in
     omega (arith, length-take h.size (drop h.start bytes), length-drop h.start bytes)
 
-pub is_code : (bytes : List ℕ) (limit : ℕ) (h : Header) (code : List ℕ) (placed : List Placed) → IsWhole bytes limit h → code ≡ code_of bytes h → Reads 0 code placed (length code) [] → IsCode bytes limit h placed
+-- the code was cut into these instructions
+pub record IsRead (bytes : List ℕ) (limit : ℕ) (h : Header) (code : List ℕ) (placed : List Placed) : Type 0 where
+  pub whole : IsWhole bytes limit h
+  pub is : code ≡ code_of bytes h
+  pub reads : Reads 0 code placed (length code) []
+
+is_code : (bytes : List ℕ) (limit : ℕ) (h : Header) (code : List ℕ) (placed : List Placed) → IsWhole bytes limit h → code ≡ code_of bytes h → Reads 0 code placed (length code) [] → IsCode bytes limit h placed
 is_code bytes limit h code placed whole is reads =
     let all : Reads 0 (code_of bytes h) placed (length (code_of bytes h)) [] = subst (λ (x : List ℕ). Reads 0 x placed (length x) []) is reads in
     record {
@@ -96,9 +101,9 @@ by_instruction (b ∷ bytes) =
     either_reading _ (prefixed bytes) (with_code 1 b bytes) (by_prefix bytes) (by_entry 1 b (entry_of b) bytes)
 
 -- the cut of the code stops
-pub cut_refused : (bytes : List ℕ) (limit : ℕ) (h : Header) (code : List ℕ) → IsWhole bytes limit h → code ≡ code_of bytes h → (e : Or BodyFault) → IsCutFault code h.start e → IsRefused bytes limit e
-cut_refused bytes limit h code whole is NoMemory f = tt
-cut_refused bytes limit h code whole is (Fault fault) (placed, at, rest, reads, more, none, place) =
+pub cut_refused : {bytes : List ℕ} {limit : ℕ} {h : Header} (code : List ℕ) → IsWhole bytes limit h → code ≡ code_of bytes h → (e : Or BodyFault) → IsCutFault code h.start e → IsRefused bytes limit e
+cut_refused code whole is NoMemory f = tt
+cut_refused {bytes = bytes} {limit = limit} {h = h} code whole is (Fault fault) (placed, at, rest, reads, more, none, place) =
     let all : Reads 0 (code_of bytes h) placed at rest = subst (λ (x : List ℕ). Reads 0 x placed at rest) is reads in
     stops_at bytes limit fault.at fault.cause (IfErr-at_err IsStopCause none (by_instruction rest))
     (h, at, record { whole = whole; code = placed; rest = rest; reads = all; more = more; none = none }, place)
@@ -106,34 +111,34 @@ cut_refused bytes limit h code whole is (Fault fault) (placed, at, rest, reads, 
 -- ---- where the instructions lead
 
 -- an instruction leads to a place at which none starts
-pub aim_refused : (bytes : List ℕ) (limit : ℕ) (h : Header) (code : List ℕ) (placed ps : List Placed) → IsWhole bytes limit h → code ≡ code_of bytes h → Reads 0 code placed (length code) [] → ps ≡ placed → (e : Or BodyFault) → IsAimFault code ps h.start e → IsRefused bytes limit e
-aim_refused bytes limit h code placed ps whole is reads same NoMemory f = tt
-aim_refused bytes limit h code placed ps whole is reads same (Fault fault) (x, off, cause, place) =
-    let off' : IsFirstOff (IsAimed code (starts_of placed)) placed x = subst (λ (q : List Placed). IsFirstOff (IsAimed code (starts_of q)) q x) same off in
-    let off'' : IsFirstOff (IsAimed (code_of bytes h) (starts_of placed)) placed x = subst (λ (b : List ℕ). IsFirstOff (IsAimed b (starts_of placed)) placed x) is off' in
+pub aim_refused : {bytes : List ℕ} {limit : ℕ} {h : Header} {code : List ℕ} {placed : List Placed} → IsRead bytes limit h code placed → {ps : List Placed} → ps ≡ placed → (e : Or BodyFault) → IsAimFault code ps h.start e → IsRefused bytes limit e
+aim_refused r same NoMemory f = tt
+aim_refused {bytes = bytes} {limit = limit} {h = h} {code = code} {placed = placed} r same (Fault fault) (x, off, cause, place) =
+    let here : IsFirstOff (IsAimed code (starts_of placed)) placed x = subst (λ (q : List Placed). IsFirstOff (IsAimed code (starts_of q)) q x) same off in
+    let off' : IsFirstOff (IsAimed (code_of bytes h) (starts_of placed)) placed x = subst (λ (b : List ℕ). IsFirstOff (IsAimed b (starts_of placed)) placed x) r.is here in
     subst (λ (why : BodyCause). IsWrong bytes limit fault.at why) (sym cause)
-    (h, placed, is_code bytes limit h code placed whole is reads, (x, off'', place))
+    (h, placed, is_code bytes limit h code placed r.whole r.is r.reads, (x, off', place))
 
-pub is_aimed : (bytes : List ℕ) (limit : ℕ) (h : Header) (code : List ℕ) (placed ps : List Placed) (starts : List ℕ) → IsWhole bytes limit h → code ≡ code_of bytes h → Reads 0 code placed (length code) [] → ps ≡ placed → starts ≡ starts_of placed → All (IsAimed code starts) ps → IsAimedCode bytes limit h placed
-is_aimed bytes limit h code placed ps starts whole is reads same begin aims =
-    let aims' : All (IsAimed code starts) placed = subst (λ (q : List Placed). All (IsAimed code starts) q) same aims in
-    let aims'' : All (IsAimed code (starts_of placed)) placed = subst (λ (q : List ℕ). All (IsAimed code q) placed) begin aims' in
+pub is_aimed : {bytes : List ℕ} {limit : ℕ} {h : Header} {code : List ℕ} {placed : List Placed} → IsRead bytes limit h code placed → {ps : List Placed} → ps ≡ placed → {starts : List ℕ} → starts ≡ starts_of placed → All (IsAimed code starts) ps → IsAimedCode bytes limit h placed
+is_aimed {bytes = bytes} {limit = limit} {h = h} {code = code} {placed = placed} r same {starts = starts} begin aims =
+    let all : All (IsAimed code starts) placed = subst (λ (q : List Placed). All (IsAimed code starts) q) same aims in
+    let at_starts : All (IsAimed code (starts_of placed)) placed = subst (λ (q : List ℕ). All (IsAimed code q) placed) begin all in
     record {
-      is_code = is_code bytes limit h code placed whole is reads;
-      aimed = subst (λ (b : List ℕ). All (IsAimed b (starts_of placed)) placed) is aims'';
+      is_code = is_code bytes limit h code placed r.whole r.is r.reads;
+      aimed = subst (λ (b : List ℕ). All (IsAimed b (starts_of placed)) placed) r.is at_starts;
     }
 
 -- ---- the sections and the clauses
 
 -- the sections have a fault
-pub section_refused : (bytes : List ℕ) (limit : ℕ) (h : Header) (placed : List Placed) (starts : List ℕ) → IsAimedCode bytes limit h placed → starts ≡ starts_of placed → (e : Or BodyFault) → IsSectionFault bytes h starts e → IsRefused bytes limit e
-section_refused bytes limit h placed starts aimed begin NoMemory f = tt
-section_refused bytes limit h placed starts aimed begin (Fault fault) (has, cause, bad) =
+pub section_refused : {bytes : List ℕ} {limit : ℕ} {h : Header} {placed : List Placed} → IsAimedCode bytes limit h placed → {starts : List ℕ} → starts ≡ starts_of placed → (e : Or BodyFault) → IsSectionFault bytes h starts e → IsRefused bytes limit e
+section_refused aimed begin NoMemory f = tt
+section_refused {bytes = bytes} {limit = limit} {h = h} {placed = placed} aimed begin (Fault fault) (has, cause, bad) =
     subst (λ (why : BodyCause). IsWrong bytes limit fault.at why) (sym cause)
     (h, placed, aimed, has, subst (λ (q : List ℕ). IsBadSection bytes q h.size (sections_place h) fault.at) begin bad)
 
-pub has_clauses : (bytes : List ℕ) (limit : ℕ) (h : Header) (placed : List Placed) (starts : List ℕ) (raw : List RawClause) → IsAimedCode bytes limit h placed → starts ≡ starts_of placed → (are : AreClauses bytes h starts raw) → HasClauses bytes limit h placed are.0
-has_clauses bytes limit h placed starts raw aimed begin are =
+has_clauses : {bytes : List ℕ} {limit : ℕ} {h : Header} {placed : List Placed} → IsAimedCode bytes limit h placed → {starts : List ℕ} → starts ≡ starts_of placed → (raw : List RawClause) (are : AreClauses bytes h starts raw) → HasClauses bytes limit h placed are.0
+has_clauses {bytes = bytes} {h = h} aimed {starts = starts} begin raw are =
     let fine : All (IsClause starts h.size) (all_clauses bytes are.0) = subst (λ (cs : List RawClause). All (IsClause starts h.size) cs) are.2 are.3 in
     record {
       aimed = aimed;
@@ -142,12 +147,12 @@ has_clauses bytes limit h placed starts raw aimed begin are =
     }
 
 -- a clause isn't taken
-pub clause_refused : (bytes : List ℕ) (limit : ℕ) (h : Header) (placed : List Placed) (starts : List ℕ) (raw rs : List RawClause) → IsAimedCode bytes limit h placed → starts ≡ starts_of placed → AreClauses bytes h starts raw → rs ≡ raw → (e : Or BodyFault) → IsClauseFault rs e → IsRefused bytes limit e
-clause_refused bytes limit h placed starts raw rs aimed begin are same NoMemory f = tt
-clause_refused bytes limit h placed starts raw rs aimed begin are same (Fault fault) (x, off, cause, place) =
+pub clause_refused : {bytes : List ℕ} {limit : ℕ} {h : Header} {placed : List Placed} → IsAimedCode bytes limit h placed → {starts : List ℕ} → starts ≡ starts_of placed → {rs raw : List RawClause} → rs ≡ raw → AreClauses bytes h starts raw → (e : Or BodyFault) → IsClauseFault rs e → IsRefused bytes limit e
+clause_refused aimed begin same are NoMemory f = tt
+clause_refused {bytes = bytes} {limit = limit} {h = h} {placed = placed} aimed begin {raw = raw} same are (Fault fault) (x, off, cause, place) =
     let off' : IsFirstOff IsTaken (all_clauses bytes are.0) x = subst (λ (cs : List RawClause). IsFirstOff IsTaken cs x) (same ∙ are.2) off in
     subst (λ (why : BodyCause). IsWrong bytes limit fault.at why) (sym cause)
-    (h, placed, are.0, has_clauses bytes limit h placed starts raw aimed begin are, (x, off', place, refl))
+    (h, placed, are.0, has_clauses aimed begin raw are, (x, off', place, refl))
 
 -- ---- the body
 
@@ -162,15 +167,14 @@ made h instrs clauses =
       clauses = clauses;
     }
 
-pub is_body : (bytes : List ℕ) (limit : ℕ) (h : Header) (code : List ℕ) (placed ps : List Placed) (starts : List ℕ) (raw rs : List RawClause) (instrs : List (ℕ × Instr)) (clauses : List Clause) → IsAimedCode bytes limit h placed → code ≡ code_of bytes h → ps ≡ placed → starts ≡ starts_of placed → AreClauses bytes h starts raw → rs ≡ raw → All IsTaken rs → instrs ≡ map (instr_of code) ps → clauses ≡ map clause_of rs → IsBody bytes limit (record { max_stack = h.max_stack; init_locals = h.init_locals; locals = h.locals; size = h.size; code = instrs; clauses = clauses })
-is_body bytes limit h code placed ps starts raw rs instrs clauses aimed is same begin are listed taken reads says =
-    let instrs' : instrs ≡ map (instr_of (code_of bytes h)) placed = reads ∙ ap (map (instr_of code)) same ∙ ap (λ (b : List ℕ). map (instr_of b) placed) is in
-    let clauses' : clauses ≡ map clause_of (all_clauses bytes are.0) = says ∙ ap (map clause_of) (listed ∙ are.2) in
+pub is_body : {bytes : List ℕ} {limit : ℕ} {h : Header} {placed : List Placed} → IsAimedCode bytes limit h placed → {starts : List ℕ} → starts ≡ starts_of placed → {rs raw : List RawClause} → rs ≡ raw → AreClauses bytes h starts raw → All IsTaken rs → (instrs : List (ℕ × Instr)) (clauses : List Clause) → instrs ≡ map (instr_of (code_of bytes h)) placed → clauses ≡ map clause_of rs → IsBody bytes limit (made h instrs clauses)
+is_body {bytes = bytes} {h = h} {placed = placed} aimed begin {raw = raw} same are taken instrs clauses reads says =
+    let all : clauses ≡ map clause_of (all_clauses bytes are.0) = says ∙ ap (map clause_of) (same ∙ are.2) in
     record {
       header = h;
       code = placed;
       sections = are.0;
-      has = has_clauses bytes limit h placed starts raw aimed begin are;
-      taken = subst (λ (cs : List RawClause). All IsTaken cs) (listed ∙ are.2) taken;
-      is = ap (λ (x : List (ℕ × Instr)). made h x clauses) instrs' ∙ ap (λ (x : List Clause). made h (map (instr_of (code_of bytes h)) placed) x) clauses';
+      has = has_clauses aimed begin raw are;
+      taken = subst (λ (cs : List RawClause). All IsTaken cs) (same ∙ are.2) taken;
+      is = ap (λ (x : List (ℕ × Instr)). made h x clauses) reads ∙ ap (λ (x : List Clause). made h (map (instr_of (code_of bytes h)) placed) x) all;
     }

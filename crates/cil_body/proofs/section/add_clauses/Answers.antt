@@ -1,8 +1,8 @@
-use Rattle.std.proofs.Common.{◌≡◌, ℕ, ◌+◌, ◌*◌, ◌/◌, ◌-◌, ◌++◌, ◌∷◌, [], ◌<◌, ◌≤◌, List, refl, sym, ap, ◌∙◌, subst, append_assoc, add-one, All, arith, rules}
+use Rattle.std.proofs.Common.{◌≡◌, ℕ, ◌+◌, ◌*◌, ◌/◌, ◌-◌, ◌++◌, ◌∷◌, [], ◌<◌, ◌≤◌, List, refl, sym, ap, ◌∙◌, subst, append_assoc, add-one, All, arith}
 use Rattle.std.proofs.lemmas.List.Elements.{All-push}
 use Rattle.std.proofs.lemmas.Bool.{false≢true}
 use Rattle.cil_body.specs.declared.section.RawClause.{RawClause}
-use Rattle.cil_body.specs.Section.{IsClause, clause_width, clause_at, clauses_from, clauses_of}
+use Rattle.cil_body.specs.Section.{IsClause, clause_width, clause_at, clauses_from}
 use Rattle.cil_body.proofs.SectionFacts.{first_broken, clauses_more, place_of_clause}
 use Rattle.cil_body.proofs.section.add_clauses.Goals as goal
 
