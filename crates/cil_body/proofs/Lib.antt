@@ -15,3 +15,5 @@ pub mod Ranges
 pub mod OneRegions
 pub mod SameLists
 pub mod OneTree
+pub mod SectionFacts
+pub mod DecodeFacts

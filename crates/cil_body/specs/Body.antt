@@ -7,6 +7,7 @@ use Rattle.cil_body.specs.declared.section.Section.{Section}
 use Rattle.cil_body.specs.declared.section.RawClause.{RawClause}
 use Rattle.cil_body.specs.declared.body.Body.{Body}
 use Rattle.cil_body.specs.declared.body.Clause.{Clause}
+use Rattle.cil_body.specs.declared.body.ClauseKind.{ClauseKind}
 use Rattle.cil_body.specs.declared.body.ClauseKind.TheVariants.{Catch, Finally}
 use Rattle.cil_body.specs.declared.fault.BodyFault.{BodyFault}
 use Rattle.cil_body.specs.declared.fault.BodyCause.{BodyCause}
@@ -16,11 +17,15 @@ use Rattle.cil_body.specs.Header.{IsHeader, IsBadHeader}
 use Rattle.cil_body.specs.Code.{Placed, IsCode, IsStop, IsAimed, code_of, starts_of, instr_of}
 use Rattle.cil_body.specs.Section.{HasSections, all_clauses, sections_place, IsClause, IsTaken, IsBadSection}
 
+-- what a clause does whose kind is 0 or 2
+abbrev pub kind_of : ℕ → ClauseKind
+kind_of kind = if kind == 0 then Catch else Finally
+
 -- a clause of kind 0 or 2
 abbrev pub clause_of : RawClause → Clause
 clause_of c =
     record {
-      kind = if c.kind == 0 then Catch else Finally;
+      kind = kind_of c.kind;
       try_at = c.try_at;
       try_len = c.try_len;
       handler_at = c.handler_at;

@@ -112,12 +112,19 @@ abbrev pub IsKind : ℕ → Type 0
 IsKind kind = (kind ≡ 0) ⊎ (kind ≡ 1) ⊎ (kind ≡ 2) ⊎ (kind ≡ 4)
 
 -- of these, catch and finally are taken
+abbrev pub IsTakenKind : ℕ → Type 0
+IsTakenKind kind = (kind ≡ 0) ⊎ (kind ≡ 2)
+
 abbrev pub IsTaken : RawClause → Type 0
-IsTaken c = (c.kind ≡ 0) ⊎ (c.kind ≡ 2)
+IsTaken c = IsTakenKind c.kind
 
 -- a place where an instruction starts, or the code's end
 abbrev pub IsBound : List ℕ → ℕ → ℕ → Type 0
 IsBound starts size place = Contains starts place ⊎ (place ≡ size)
+
+-- the range isn't empty, and begins and ends at such a place
+abbrev pub AreBounds : List ℕ → ℕ → ℕ → ℕ → Type 0
+AreBounds starts size at len = (0 < len) × IsBound starts size at × IsBound starts size (at + len)
 
 -- the clause has a kind of the standard, and a try and a handler of whole instructions, at least one each
 pub record IsClause (starts : List ℕ) (size : ℕ) (c : RawClause) : Type 0 where
@@ -153,3 +160,9 @@ abbrev pub IsSectionFault : List ℕ → Header → List ℕ → Or BodyFault �
 IsSectionFault bytes h starts NoMemory = Unit {0}
 IsSectionFault bytes h starts (Fault fault) =
     (h.has_sections ≡ true) × (fault.cause ≡ BadSection) × IsBadSection bytes starts h.size (sections_place h) fault.at
+
+-- the first of the section's clauses that is none stands at the fault's place
+abbrev pub IsClauseBroken : List ℕ → Section → List ℕ → ℕ → Or BodyFault → Type 0
+IsClauseBroken bytes s starts size NoMemory = Unit {0}
+IsClauseBroken bytes s starts size (Fault fault) =
+    (fault.cause ≡ BadSection) × ((c : RawClause) × IsFirstOff (IsClause starts size) (clauses_of bytes s) c × (fault.at ≡ c.at))

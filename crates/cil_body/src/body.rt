@@ -1,8 +1,8 @@
 // A body.
 
-ghost use Rattle.std.specs.Prelude.{◌≡◌, ◌≤◌, ◌^◌, length, map, All, IfOk, IfErr};
-ghost use Rattle.cil_body.specs.Section.{IsTaken};
-ghost use Rattle.cil_body.specs.Body.{clause_of, IsBody, IsClauseFault, IsRefused};
+ghost use Rattle.std.specs.Prelude.{◌≡◌, ◌≤◌, ◌^◌, length, map, All, IfOk, IfErr, IfSome, IfNone};
+ghost use Rattle.cil_body.specs.Section.{IsTaken, IsTakenKind};
+ghost use Rattle.cil_body.specs.Body.{clause_of, kind_of, IsBody, IsClauseFault, IsRefused};
 
 use crate::code::{aimed, code_of, cut, starts};
 use crate::fault::{BodyCause, BodyFault};
@@ -109,7 +109,11 @@ fn clauses(alloc: Global, raw: &[RawClause]) -> Result<Vec<Clause>, Or<BodyFault
 }
 
 // The kind of a clause, if it is taken.
-fn kind(kind: u32) -> Option<ClauseKind> {
+fn kind(kind: u32) -> Option<ClauseKind>
+    ensures kind { IfSome result (λ found. found ≡ kind_of kind) }
+    ensures taken { IfSome result (λ _. IsTakenKind kind) }
+    ensures none { IfNone result (IsTakenKind kind → ⊥) }
+{
     match kind {
         0 => Some(ClauseKind::Catch),
         2 => Some(ClauseKind::Finally),

@@ -1,8 +1,10 @@
 // The sections behind the code, and their clauses.
 
-ghost use Rattle.std.specs.Prelude.{◌≡◌, ◌+◌, ◌≤◌, ◌^◌, length, IfOk, IfErr};
+ghost use Rattle.std.specs.Prelude.{◌≡◌, ◌+◌, ◌≤◌, ◌<◌, ◌^◌, ◌++◌, ◌↔◌, length, All, IfOk, IfErr, OnOk, IfSome, IfNone, IsTrue};
 ghost use Rattle.cil_body.specs.Code.{AreInOrder};
-ghost use Rattle.cil_body.specs.Section.{AreClauses, IsSectionFault};
+ghost use Rattle.cil_body.specs.Section.{AreClauses, IsSectionFault, IsSection, IsKind, IsClause, AreBounds, IsBound, IsClauseBroken, aligned, clause_width, clauses_of, clause_at, fat_clause, small_clause};
+ghost use Rattle.cil_body.specs.declared.fault.BodyCause.TheVariants.{BadSection};
+ghost use Rattle.cil_body.specs.declared.section.Section.{Section};
 
 use crate::fault::{BodyCause, BodyFault};
 use crate::header::Header;
@@ -69,7 +71,10 @@ pub fn raw_clauses(
     }
 }
 
-fn bad_section(at: u32) -> BodyFault {
+fn bad_section(at: u32) -> BodyFault
+    ensures cause { result.cause ≡ BadSection }
+    ensures place { result.at ≡ at }
+{
     BodyFault {
         cause: BodyCause::BadSection,
         at,
@@ -77,12 +82,18 @@ fn bad_section(at: u32) -> BodyFault {
 }
 
 // The first multiple of four from this place on.
-fn aligned(place: usize) -> usize {
+fn aligned(place: usize) -> usize
+    requires { place < 2 ^ 32 }
+    ensures { result ≡ aligned place }
+{
     (place + 3) / 4 * 4
 }
 
 // The section that stands at this place, if one does.
-fn section_at(bytes: &[u8], at: usize) -> Option<Section> {
+fn section_at(bytes: &[u8], at: usize) -> Option<Section>
+    ensures found { IfSome result (IsSection bytes.now at) }
+    ensures none { IfNone result ((s : Section) → IsSection bytes.now at s → ⊥) }
+{
     let header = bytes.get(at..)?;
     if header.len() < 4 || header[0] % FAT != CLAUSES {
         return None;
@@ -105,7 +116,9 @@ fn section_at(bytes: &[u8], at: usize) -> Option<Section> {
 }
 
 // The bytes of a clause.
-fn width(is_fat: bool) -> usize {
+fn width(is_fat: bool) -> usize
+    ensures { result ≡ clause_width is_fat }
+{
     if is_fat { 24 } else { 12 }
 }
 
@@ -116,7 +129,14 @@ fn add_clauses(
     starts: &[u32],
     size: u32,
     clauses: &mut Vec<RawClause>,
-) -> Result<(), Or<BodyFault>> {
+) -> Result<(), Or<BodyFault>>
+    requires short { length bytes.now ≤ 2 ^ 31 }
+    requires section { IsSection bytes.now section.at section }
+    requires order { AreInOrder starts.now }
+    ensures added { OnOk result (clauses.new.items ≡ clauses.old.items ++ clauses_of bytes.now section) }
+    ensures fine { OnOk result (All (IsClause starts.now size) (clauses_of bytes.now section)) }
+    ensures fault { IfErr result (IsClauseBroken bytes.now section starts.now size) }
+{
     let width = width(section.is_fat);
     for i in 0..(section.size - 4) / width {
         let at = section.at + 4 + i * width;
@@ -130,9 +150,11 @@ fn add_clauses(
 }
 
 // The clause at this place, whose bytes are all there.
-fn clause_at(bytes: &[u8], is_fat: bool, at: usize) -> RawClause {
-    let bytes = &bytes[at..];
-    let at = at as u32;
+fn clause_at(bytes: &[u8], is_fat: bool, at: usize) -> RawClause
+    requires short { length bytes.now ≤ 2 ^ 31 }
+    requires within { at + clause_width is_fat ≤ length bytes.now }
+    ensures { result ≡ clause_at is_fat bytes.now at }
+{
     if is_fat {
         fat_clause(bytes, at)
     } else {
@@ -140,45 +162,69 @@ fn clause_at(bytes: &[u8], is_fat: bool, at: usize) -> RawClause {
     }
 }
 
-fn fat_clause(bytes: &[u8], at: u32) -> RawClause {
+fn fat_clause(bytes: &[u8], at: usize) -> RawClause
+    requires short { length bytes.now ≤ 2 ^ 31 }
+    requires within { at + 24 ≤ length bytes.now }
+    ensures { result ≡ fat_clause bytes.now at }
+{
     RawClause {
-        at,
-        kind: LittleEndian::read_u32(bytes),
-        try_at: LittleEndian::read_u32(&bytes[4..]),
-        try_len: LittleEndian::read_u32(&bytes[8..]),
-        handler_at: LittleEndian::read_u32(&bytes[12..]),
-        handler_len: LittleEndian::read_u32(&bytes[16..]),
-        class: LittleEndian::read_u32(&bytes[20..]),
+        at: at as u32,
+        kind: LittleEndian::read_u32(&bytes[at..]),
+        try_at: LittleEndian::read_u32(&bytes[at + 4..]),
+        try_len: LittleEndian::read_u32(&bytes[at + 8..]),
+        handler_at: LittleEndian::read_u32(&bytes[at + 12..]),
+        handler_len: LittleEndian::read_u32(&bytes[at + 16..]),
+        class: LittleEndian::read_u32(&bytes[at + 20..]),
     }
 }
 
-fn small_clause(bytes: &[u8], at: u32) -> RawClause {
+fn small_clause(bytes: &[u8], at: usize) -> RawClause
+    requires short { length bytes.now ≤ 2 ^ 31 }
+    requires within { at + 12 ≤ length bytes.now }
+    ensures { result ≡ small_clause bytes.now at }
+{
     RawClause {
-        at,
-        kind: u32::from(LittleEndian::read_u16(bytes)),
-        try_at: u32::from(LittleEndian::read_u16(&bytes[2..])),
-        try_len: u32::from(bytes[4]),
-        handler_at: u32::from(LittleEndian::read_u16(&bytes[5..])),
-        handler_len: u32::from(bytes[7]),
-        class: LittleEndian::read_u32(&bytes[8..]),
+        at: at as u32,
+        kind: u32::from(LittleEndian::read_u16(&bytes[at..])),
+        try_at: u32::from(LittleEndian::read_u16(&bytes[at + 2..])),
+        try_len: u32::from(bytes[at + 4]),
+        handler_at: u32::from(LittleEndian::read_u16(&bytes[at + 5..])),
+        handler_len: u32::from(bytes[at + 7]),
+        class: LittleEndian::read_u32(&bytes[at + 8..]),
     }
 }
 
 // Whether a clause has a kind of the standard and bounds at the code's instructions.
-fn is_clause(clause: RawClause, starts: &[u32], size: u32) -> bool {
-    matches!(clause.kind, 0 | 1 | 2 | 4)
+fn is_clause(clause: RawClause, starts: &[u32], size: u32) -> bool
+    requires { AreInOrder starts.now }
+    ensures { IsTrue result ↔ IsClause starts.now size clause }
+{
+    is_kind(clause.kind)
         && are_bounds(clause.try_at, clause.try_len, starts, size)
         && are_bounds(clause.handler_at, clause.handler_len, starts, size)
 }
 
+// Whether a kind of clause is one of the standard's.
+fn is_kind(kind: u32) -> bool
+    ensures { IsTrue result ↔ IsKind kind }
+{
+    matches!(kind, 0 | 1 | 2 | 4)
+}
+
 // Whether a range isn't empty, and begins and ends where an instruction starts or with the code.
-fn are_bounds(at: u32, len: u32, starts: &[u32], size: u32) -> bool {
+fn are_bounds(at: u32, len: u32, starts: &[u32], size: u32) -> bool
+    requires { AreInOrder starts.now }
+    ensures { IsTrue result ↔ AreBounds starts.now size at len }
+{
     let Some(end) = at.checked_add(len) else {
         return false;
     };
     len > 0 && is_bound(at, starts, size) && is_bound(end, starts, size)
 }
 
-fn is_bound(place: u32, starts: &[u32], size: u32) -> bool {
+fn is_bound(place: u32, starts: &[u32], size: u32) -> bool
+    requires { AreInOrder starts.now }
+    ensures { IsTrue result ↔ IsBound starts.now size place }
+{
     place == size || starts.binary_search(&place).is_ok()
 }
