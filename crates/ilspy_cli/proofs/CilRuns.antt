@@ -5,6 +5,7 @@ use Rattle.std.proofs.lemmas.Bool.{eq-eqb, ne_eqb, lt-ltb}
 use Rattle.cil_body.specs.declared.instruction.Simple.{Simple}
 use Rattle.cil_body.specs.Opcode.{size_of}
 use Rattle.cil_body.specs.Cut.{Placed, IsConsecutive}
+use Rattle.cil_body.proofs.Cut.{size_of-positive}
 use Rattle.cil_meaning.specs.declared.machine.LoneState.{LoneState}
 use Rattle.cil_meaning.specs.declared.machine.LoneStepped.{LoneStepped}
 use Rattle.cil_meaning.specs.declared.machine.LoneStepped.TheVariants.{Next, Done, Stuck}
@@ -33,7 +34,9 @@ SameFrom-start at code = record { same = λ place le. refl }
 -- behind an instruction, the rest is what follows it
 pub SameFrom-behind : (at : ℕ) (whole : List Placed) (e : Placed) (code : List Placed) → e.0 ≡ at →
     SameFrom at whole (e ∷ code) → SameFrom (at + size_of e.1.op) whole code
-SameFrom-behind at whole e code h s = record { same = λ place le. s.same place (omega arith) ∙ standing_later e code place (omega arith) }
+SameFrom-behind at whole e code h s =
+    let some = size_of-positive e.1.op in
+    record { same = λ place le. s.same place (omega arith) ∙ standing_later e code place (omega arith) }
 
 -- the instruction at the head acts
 pub step_here : (whole : List Placed) (e : Placed) (code : List Placed) (s : LoneState) → e.0 ≡ s.at →
@@ -48,7 +51,10 @@ consecutive_le at (e ∷ code) end h = let le = consecutive_le (at + size_of e.1
 -- it has room for each instruction
 pub consecutive_length : (at : ℕ) (code : List Placed) (end : ℕ) → IsConsecutive at code end → at + length code ≤ end
 consecutive_length at [] end h = omega arith
-consecutive_length at (e ∷ code) end h = let le = consecutive_length (at + size_of e.1.op) code end h.1 in omega arith
+consecutive_length at (e ∷ code) end h =
+    let some = size_of-positive e.1.op in
+    let le = consecutive_length (at + size_of e.1.op) code end h.1 in
+    omega arith
 
 -- below place 2^32 there is a next state
 pub onward_below : (i : Simple) (s : LoneState) (stack : List ℤ) → s.at + size_of i.op < 2 ^ 32 →
