@@ -1,10 +1,9 @@
 -- What is known of each instruction of a cut: its place, its bytes, its operand and its row.
-use Rattle.std.proofs.Common.{◌≡◌, ℕ, zero, suc, ◌+◌, ◌<◌, ◌≤◌, Bool, true, false, cond, ltb, List, [], ◌∷◌, length, get_or, drop, Option, None, Some, Result, Ok, Err, ℤ, arith, rules, refl, sym, ◌∙◌, ap, subst}
+use Rattle.std.proofs.Common.{◌≡◌, ℕ, zero, suc, ◌+◌, ◌<◌, ◌≤◌, true, cond, ltb, List, [], ◌∷◌, length, get_or, drop, Option, None, Some, Result, Ok, Err, ℤ, arith, rules, refl, sym, ◌∙◌, ap, subst}
 use Rattle.std.proofs.lemmas.Int.{ints}
 use Rattle.std.specs.Int.{cast_signed, w8, w32}
 use Rattle.std.specs.Int.RustNames.{FitsSigned}
 use Rattle.byteorder.specs.Endian.{little_number}
-use Rattle.cil_body.specs.declared.opcode.Op.{Op}
 use Rattle.cil_body.specs.declared.opcode.Operand.{Operand}
 use Rattle.cil_body.specs.declared.opcode.Operand.TheVariants.{Absent, Var8, Var16, Int8, Int32, Int64, Token, Target8, Target32, Switch}
 use Rattle.cil_body.specs.declared.opcode.Row.{Row}
@@ -15,7 +14,7 @@ use Rattle.cil_body.specs.declared.standalone.Stop.TheVariants.{Truncated}
 use Rattle.cil_body.specs.Opcode.{Line, operand_len, row_of, size_of, entry_of}
 use Rattle.cil_body.specs.Instruction.{number_of}
 use Rattle.cil_body.specs.Cut.{Placed, Cuts, IsConsecutive, with_operand, with_row, with_line, lone_at}
-use Rattle.cil_body.proofs.Table.{operand_fits, row_fits, line_fits, entry_fits}
+use Rattle.cil_body.proofs.Table.{operand_fits, row_fits, entry_fits}
 use Rattle.cil_body.proofs.Cut.{size_of-positive, consecutive_le}
 
 -- each place is before the end
