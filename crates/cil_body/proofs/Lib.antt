@@ -1,3 +1,4 @@
+pub mod InstructionFacts
 pub mod Cut
 pub mod Walk
 pub mod Break
