@@ -68,7 +68,7 @@ pub fn cut(alloc: Global, code: &[u8], start: usize) -> Result<Vec<(u32, Found)>
 pub fn starts(alloc: Global, placed: &[(u32, Found)]) -> Result<Vec<u32>, NoMemory>
     ensures { IfOk result (λ starts. starts.items ≡ starts_of placed.now) }
 {
-    Ok(placed.iter().map(|(at, _)| *at).collect(alloc)?)
+    Ok(placed.iter().map(|placed| placed.0).collect(alloc)?)
 }
 
 /// The instructions with the places that they lead to, at each of which one starts.
