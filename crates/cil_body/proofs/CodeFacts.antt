@@ -1,6 +1,6 @@
 -- Code that is cut into instructions: it is cut one by one, its places rise, and each instruction is in its bytes.
 use Rattle.std.proofs.Common.{◌≡◌, ◌≢◌, ℕ, zero, suc, ◌+◌, ◌-◌, ◌*◌, ◌<◌, ◌≤◌, List, [], ◌∷◌, ◌++◌, length, get_or, take, drop, map, Ok, Err, refl, sym, ◌∙◌, ap, subst, arith}
-use Rattle.std.proofs.lemmas.List.{drop-drop, length-drop, take_all, get_or-map}
+use Rattle.std.proofs.lemmas.List.{drop-drop, length-drop, take_all}
 use Rattle.cil_body.specs.declared.instruction.Found.{Found}
 use Rattle.cil_body.specs.declared.fault.BodyCause.{BodyCause}
 use Rattle.cil_body.specs.Instruction.{instruction_at}
@@ -60,17 +60,23 @@ Reads-at bytes at (e ∷ code) end rest h (suc k) d l =
     subst (λ (xs : List ℕ). Reads (at + e.1.size) xs code end rest) (drop-drop e.1.size at bytes) h.2 in
     Reads-at bytes (at + e.1.size) code end rest next k d (omega arith)
 
--- the places rise
-rises :
-    (at : ℕ) (bytes : List ℕ) (code : List Placed) (end : ℕ) (rest : List ℕ) → Reads at bytes code end rest → (i j : ℕ) (d : Placed) → i ≤ j → j < length code → (get_or code i d).0 ≤ (get_or code j d).0
-rises at bytes [] end rest h i j d le l = absurd (omega arith)
-rises at bytes (e ∷ code) end rest h zero j d le l =
-    let is = h.0 in
-    let r = Reads-place at bytes (e ∷ code) end rest h j d l in
+starts-place : (at : ℕ) (bytes : List ℕ) (code : List Placed) (end : ℕ) (rest : List ℕ) → Reads at bytes code end rest → (k : ℕ) → k < length (starts_of code) → at ≤ get_or (starts_of code) k 0
+starts-place at bytes [] end rest h k l = absurd (omega arith)
+starts-place at bytes (e ∷ code) end rest h zero l = omega (arith, h.0)
+starts-place at bytes (e ∷ code) end rest h (suc k) l =
+    let r = starts-place (at + e.1.size) (drop e.1.size bytes) code end rest h.2 k (omega arith) in
     omega arith
-rises at bytes (e ∷ code) end rest h (suc i) zero d le l = absurd (omega arith)
-rises at bytes (e ∷ code) end rest h (suc i) (suc j) d le l =
-    rises (at + e.1.size) (drop e.1.size bytes) code end rest h.2 i j d (omega arith) (omega arith)
+
+-- the places rise
+pub starts-ordered : (at : ℕ) (bytes : List ℕ) (code : List Placed) (end : ℕ) (rest : List ℕ) → Reads at bytes code end rest → AreInOrder (starts_of code)
+starts-ordered at bytes [] end rest h i j le l = absurd (omega arith)
+starts-ordered at bytes (e ∷ code) end rest h zero j le l =
+    let is = h.0 in
+    let r = starts-place at bytes (e ∷ code) end rest h j l in
+    omega arith
+starts-ordered at bytes (e ∷ code) end rest h (suc i) zero le l = absurd (omega arith)
+starts-ordered at bytes (e ∷ code) end rest h (suc i) (suc j) le l =
+    starts-ordered (at + e.1.size) (drop e.1.size bytes) code end rest h.2 i j (omega arith) (omega arith)
 
 -- the bytes from a place on, as a range gives them
 pub tail_is : (at : ℕ) (bytes : List ℕ) → take (length bytes - at) (drop at bytes) ≡ drop at bytes

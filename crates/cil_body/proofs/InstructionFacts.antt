@@ -2,7 +2,7 @@
 use Rattle.std.proofs.Common.{◌≡◌, ◌⊎◌, ℕ, ◌+◌, ◌-◌, ◌*◌, ◌≢◌, ◌<◌, ◌≤◌, Bool, true, false, cond, not, List, [], ◌∷◌, length, get_or, take, drop, Option, None, Some, Result, Ok, Err, refl, sym, ◌∙◌, ap, subst, inl, inr, arith, rules}
 use Rattle.std.proofs.lemmas.List.{length-drop, take_all}
 use Rattle.std.proofs.lemmas.Bool.Decides.{nat_tests}
-use Rattle.std.specs.Prelude.{find, nat_lt, ◌==◌, IfOk}
+use Rattle.std.specs.Prelude.{find, nat_lt, ◌==◌, ◌&&◌, IfOk}
 use Rattle.std.specs.List.{list_all}
 use Rattle.byteorder.specs.Endian.{little_number}
 use Rattle.cil_body.specs.declared.opcode.Op.{Op}
@@ -165,3 +165,63 @@ instruction_at-unprefixed [] l h = absurd (omega arith)
 instruction_at-unprefixed (b ∷ bytes) l h =
     let test : (b == 0xFE) ≡ false = grind (arith, nat_tests) in
     ap (with_code 1 b) (rest_is b bytes) ∙ sym (ap (λ (t : Bool). cond t (prefixed bytes) (with_code 1 b bytes)) test)
+
+both : (a b : Bool) → (a && b) ≡ true → (a ≡ true) × (b ≡ true)
+both true b h = (refl, h)
+both false b h = absurd cc
+
+first_or : (b : Bool) (x e : Line) (rest : Option Line) → cond b (Some x) rest ≡ Some e → ((b ≡ true) × (x ≡ e)) ⊎ (rest ≡ Some e)
+first_or true x e rest h = inl (refl, cc)
+first_or false x e rest h = inr h
+
+-- a line that is found passes each test that all lines pass, and the one by which it was looked for
+pub find_line : (test is : Line → Bool) (lines : List Line) (e : Line) → list_all test lines ≡ true → find is lines ≡ Some e → (test e ≡ true) × (is e ≡ true)
+find_line test is [] e all h = absurd cc
+find_line test is (x ∷ lines) e all h =
+    let a = both (test x) (list_all test lines) all in
+    elim (first_or (is x) x e (find is lines) h) [
+      | inl k ↦ subst (λ (y : Line). (test y ≡ true) × (is y ≡ true)) k.1 (a.0, k.0)
+      | inr k ↦ find_line test is lines e a.1 k
+    ]
+
+-- the opcode of a switch has one byte
+is_short_switch : Operand → ℕ → Bool
+is_short_switch Switch code = nat_lt code 0xFE00
+is_short_switch _ code = true
+
+all_short : list_all (λ e. is_short_switch e.2 e.0) TABLE ≡ true
+unfolding is_short_switch
+all_short = refl
+
+is_short : (operand : Operand) (code : ℕ) → is_short_switch operand code ≡ true → operand ≡ Switch → code < 0xFE00
+unfolding is_short_switch
+is_short operand code h is =
+    let low : nat_lt code 0xFE00 ≡ true = subst (λ (o : Operand). is_short_switch o code ≡ true) is h in
+    grind (arith, nat_tests)
+
+entry_of-switch : (code : ℕ) (e : Line) → entry_of code ≡ Some e → e.2 ≡ Switch → code < 0xFE00
+entry_of-switch code e h is =
+    let k = find_line (λ x. is_short_switch x.2 x.0) (λ x. x.0 == code) TABLE e all_short h in
+    let same = test_is e.0 code k.1 in
+    let low = is_short e.2 e.0 k.0 is in
+    omega arith
+
+pub read-operand : (bytes : List ℕ) (f : Found) (r : IsRead bytes f) → f.operand ≡ r.line.2
+read-operand bytes f r = ap (λ (g : Found). g.operand) (sym r.is)
+
+-- a switch has one byte for its opcode, four for the count of its cases, and four for each
+pub instruction_at-switch : (bytes : List ℕ) (f : Found) → instruction_at bytes ≡ Ok f → f.operand ≡ Switch → f.size ≡ 5 + 4 * little_number 4 (drop 1 bytes)
+instruction_at-switch bytes f h is =
+    let r = instruction_at-read bytes f h in
+    let of_line : r.line.2 ≡ Switch = sym (read-operand bytes f r) ∙ is in
+    let one : r.len ≡ 1 = r.short (entry_of-switch r.code r.line r.has of_line) in
+    let size : r.len + operand_size r.line.2 (drop r.len bytes) ≡ f.size = ap (λ (g : Found). g.size) r.is in
+    let there : operand_size r.line.2 (drop r.len bytes) ≡ 4 + 4 * little_number 4 (drop 1 bytes) =
+    ap (λ (o : Operand). operand_size o (drop r.len bytes)) of_line ∙ ap (λ (n : ℕ). 4 + 4 * little_number 4 (drop n bytes)) one in
+    omega arith
+
+pub instruction_at-arg : (bytes : List ℕ) (f : Found) → instruction_at bytes ≡ Ok f → (behind : List ℕ) × (f.simple.arg ≡ number_of f.operand behind)
+instruction_at-arg bytes f h =
+    let r = instruction_at-read bytes f h in
+    let arg : number_of r.line.2 (drop r.len bytes) ≡ f.simple.arg = ap (λ (g : Found). g.simple.arg) r.is in
+    (drop r.len bytes, sym arg ∙ ap (λ (o : Operand). number_of o (drop r.len bytes)) (sym (read-operand bytes f r)))

@@ -1,3 +1,4 @@
+pub mod JumpFacts
 pub mod CodeFacts
 pub mod InstructionFacts
 pub mod Cut
