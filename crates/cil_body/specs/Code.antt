@@ -115,6 +115,10 @@ instr_of bytes e = (
   },
 )
 
+-- the jumps of the instruction are aimed, and this is it with the places that they lead to
+abbrev pub IsInstr : List ℕ → List ℕ → Placed → Instr → Type 0
+IsInstr bytes starts e instr = IsAimed bytes starts e × (instr ≡ (instr_of bytes e).1)
+
 -- the places rise
 abbrev pub AreInOrder : List ℕ → Type 0
 AreInOrder starts = (i j : ℕ) → i ≤ j → j < length starts → slice_index starts i ≤ slice_index starts j

@@ -6,7 +6,7 @@ ghost use Rattle.std.specs.Int.RustNames.{FitsSigned};
 ghost use Rattle.byteorder.specs.Endian.{little_number};
 ghost use Rattle.cil_body.specs.Instruction.{instruction_at};
 ghost use Rattle.cil_body.specs.Header.{IsHeader};
-ghost use Rattle.cil_body.specs.Code.{IsWhole, code_of, Reads, IsAimed, IsCutFault, IsAimFault, starts_of, instr_of, jumps_by, HasCases, AreInOrder, HasAim, IsStart, IsTarget, AreAims, AreTargets};
+ghost use Rattle.cil_body.specs.Code.{IsWhole, code_of, Reads, IsAimed, IsCutFault, IsAimFault, starts_of, instr_of, jumps_by, HasCases, AreInOrder, HasAim, IsStart, IsTarget, IsInstr, AreAims, AreTargets};
 ghost use Rattle.cil_body.specs.Body.{IsBodyFault};
 
 use crate::body::Instr;
@@ -93,21 +93,39 @@ pub fn aimed(
 {
     let mut instrs = Vec::new(alloc);
     for (at, found) in placed {
-        let bytes = &code[*at as usize..];
-        let Some(targets) = targets(alloc, bytes, starts, *at, *found)? else {
+        let Some(instr) = instr(alloc, code, starts, *at, *found)? else {
             return Err(Or::Fault(BodyFault {
                 cause: BodyCause::BadTarget,
                 at: start as u32 + *at,
             }));
         };
-        let instr = Instr {
-            op: found.simple.op,
-            arg: found.simple.arg,
-            targets: Seq::of(targets),
-        };
         instrs.push((*at, instr))?;
     }
     Ok(instrs)
+}
+
+// The instruction at a place with the places that it leads to, if one starts at each.
+fn instr(
+    alloc: Global,
+    code: &[u8],
+    starts: &[u32],
+    at: u32,
+    found: Found,
+) -> Result<Option<Instr>, NoMemory>
+    requires short { length code.now ≤ 2 ^ 31 }
+    requires within { at ≤ length code.now }
+    requires read { instruction_at (drop at code.now) ≡ Ok found }
+    requires order { AreInOrder starts.now }
+    ensures { IfOk result (λ instr. MatchOption instr (IsAimed code.now starts.now (at, found) → ⊥) (IsInstr code.now starts.now (at, found))) }
+{
+    let Some(targets) = targets(alloc, &code[at as usize..], starts, at, found)? else {
+        return Ok(None);
+    };
+    Ok(Some(Instr {
+        op: found.simple.op,
+        arg: found.simple.arg,
+        targets: Seq::of(targets),
+    }))
 }
 
 // The places that an instruction's jumps lead to, if an instruction starts at each. The bytes are those of the code from
