@@ -1,5 +1,5 @@
 -- Code that is cut into instructions: it is cut one by one, its places rise, and each instruction is in its bytes.
-use Rattle.std.proofs.Common.{◌≡◌, ◌≢◌, ℕ, zero, suc, ◌+◌, ◌-◌, ◌*◌, ◌<◌, ◌≤◌, List, [], ◌∷◌, ◌++◌, length, get_or, take, drop, map, Ok, Err, refl, sym, ◌∙◌, ap, subst, arith}
+use Rattle.std.proofs.Common.{◌≡◌, ◌≢◌, ℕ, zero, suc, ◌+◌, ◌-◌, ◌*◌, ◌^◌, ◌<◌, ◌≤◌, Fits, w32, List, [], ◌∷◌, ◌++◌, length, get_or, take, drop, map, Ok, Err, refl, sym, ◌∙◌, ap, subst, arith}
 use Rattle.std.proofs.lemmas.List.{drop-drop, length-drop, take_all}
 use Rattle.cil_body.specs.declared.instruction.Found.{Found}
 use Rattle.cil_body.specs.declared.fault.BodyCause.{BodyCause}
@@ -49,6 +49,15 @@ Reads-place at bytes (e ∷ code) end rest h zero d l =
 Reads-place at bytes (e ∷ code) end rest h (suc k) d l =
     let r = Reads-place (at + e.1.size) (drop e.1.size bytes) code end rest h.2 k d (omega arith) in
     (omega arith, r.1)
+
+pub Reads-before : (at : ℕ) (bytes : List ℕ) (code : List Placed) (end : ℕ) (rest : List ℕ) → Reads at bytes code end rest → (k : ℕ) (d : Placed) → k < length code → (get_or code k d).0 ≤ end
+Reads-before at bytes code end rest h k d l =
+    let r = Reads-place at bytes code end rest h k d l in
+    omega (arith, r.1)
+
+-- a place in a body that isn't too long
+pub place_fits : (start place size : ℕ) → start ≤ 12 → size ≤ 2 ^ 31 → place ≤ size → Fits w32 (start + place)
+place_fits start place size near short within = omega arith
 
 -- its bytes are those from its place on
 pub Reads-at :

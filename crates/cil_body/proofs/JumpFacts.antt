@@ -16,7 +16,12 @@ use Rattle.cil_body.specs.declared.opcode.Operand.{Operand}
 use Rattle.cil_body.specs.declared.opcode.Operand.TheVariants.{Target8, Target32, Switch}
 use Rattle.cil_body.specs.declared.instruction.Found.{Found}
 use Rattle.cil_body.specs.Instruction.{number_of, instruction_at, numbers}
-use Rattle.cil_body.specs.Code.{Placed, AreInOrder, HasCases, jumps_by, aim_of, place_of, HasAim, IsTarget, AreAims, AreTargets}
+use Rattle.cil_body.specs.Code.{Placed, AreInOrder, HasCases, jumps_by, aim_of, place_of, HasAim, IsAimed, IsTarget, IsInstr, AreAims, AreTargets, IsAimFault, instr_of, starts_of}
+use Rattle.cil_body.specs.First.{IsFirstOff}
+use Rattle.cil_body.specs.declared.body.Instr.{Instr}
+use Rattle.cil_body.specs.declared.fault.BodyCause.TheVariants.{BadTarget}
+use Rattle.dc_base.specs.declared.failure.Or.TheVariants.{Fault}
+use Rattle.cil_body.proofs.FirstFacts.{first_off}
 use Rattle.cil_body.proofs.InstructionFacts.{instruction_at-within, instruction_at-switch, instruction_at-arg}
 
 -- what a search among the starts finds
@@ -111,3 +116,23 @@ targets-more starts e jumps i places place l is so_far =
 pub targets-all : (starts : List ℕ) (e : Placed) (jumps : List ℤ) (i : ℕ) (places : List ℕ) → length jumps ≤ i → AreTargets starts e (take i jumps) places → AreTargets starts e jumps places
 targets-all starts e jumps i places le h =
     subst (λ (xs : List ℤ). AreTargets starts e xs places) (take_all i jumps le) h
+
+-- one more instruction whose jumps are aimed
+pub instrs-more :
+    (code starts : List ℕ) (placed : List Placed) (i : ℕ) (d : Placed) (items : List (ℕ × Instr)) (instr : Instr) → i < length placed → IsInstr code starts (get_or placed i d) instr → items ≡ map (instr_of code) (take i placed) → items ++ ((get_or placed i d).0, instr) ∷ [] ≡ map (instr_of code) (take (i + 1) placed)
+instrs-more code starts placed i d items instr l is so_far =
+    ap (λ (xs : List (ℕ × Instr)). xs ++ ((get_or placed i d).0, instr) ∷ []) so_far
+    ∙ ap (λ (x : Instr). map (instr_of code) (take i placed) ++ ((get_or placed i d).0, x) ∷ []) is.1
+    ∙ sym (map_more (instr_of code) placed i d l)
+
+-- the first instruction that isn't aimed
+pub aim_fault :
+    (code : List ℕ) (placed : List Placed) (starts : List ℕ) (start i : ℕ) (d : Placed) → starts ≡ starts_of placed → i < length placed → All (IsAimed code starts) (take i placed) → (IsAimed code starts (get_or placed i d) → ⊥)
+    → IsAimFault code placed start (Fault (record { cause = BadTarget; at = start + (get_or placed i d).0 }))
+aim_fault code placed starts start i d is l all off =
+    (
+      get_or placed i d,
+      subst (λ (s : List ℕ). IsFirstOff (IsAimed code s) placed (get_or placed i d)) is (first_off (IsAimed code starts) placed i d l all off),
+      refl,
+      refl,
+    )

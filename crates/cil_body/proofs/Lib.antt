@@ -1,3 +1,4 @@
+pub mod FirstFacts
 pub mod JumpFacts
 pub mod CodeFacts
 pub mod InstructionFacts
