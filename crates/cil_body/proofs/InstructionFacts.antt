@@ -1,13 +1,12 @@
 -- What is known of an instruction that some bytes begin with.
-use Rattle.std.proofs.Common.{◌≡◌, ◌⊎◌, ℕ, ◌+◌, ◌-◌, ◌*◌, ◌≢◌, ◌<◌, ◌≤◌, Bool, true, false, cond, not, List, [], ◌∷◌, length, get_or, take, drop, Option, None, Some, Result, Ok, Err, refl, sym, ◌∙◌, ap, subst, inl, inr, arith, rules}
+use Rattle.std.proofs.Common.{◌≡◌, ◌⊎◌, ℕ, ◌+◌, ◌-◌, ◌*◌, ◌≢◌, ◌<◌, ◌≤◌, Bool, true, false, cond, List, [], ◌∷◌, length, get_or, take, drop, Option, None, Some, Result, Ok, Err, refl, sym, ◌∙◌, ap, subst, inl, inr, arith}
 use Rattle.std.proofs.lemmas.List.{length-drop, take_all}
 use Rattle.std.proofs.lemmas.Bool.Decides.{nat_tests}
 use Rattle.std.specs.Prelude.{find, nat_lt, ◌==◌, ◌&&◌, IfOk}
 use Rattle.std.specs.List.{list_all}
 use Rattle.byteorder.specs.Endian.{little_number}
-use Rattle.cil_body.specs.declared.opcode.Op.{Op}
 use Rattle.cil_body.specs.declared.opcode.Operand.{Operand}
-use Rattle.cil_body.specs.declared.opcode.Operand.TheVariants.{Absent, Var8, Var16, Int8, Int32, Int64, Token, Target8, Target32, Switch}
+use Rattle.cil_body.specs.declared.opcode.Operand.TheVariants.{Switch}
 use Rattle.cil_body.specs.declared.opcode.TheConstants.{TABLE}
 use Rattle.cil_body.specs.declared.instruction.Found.{Found}
 use Rattle.cil_body.specs.declared.fault.BodyCause.{BodyCause}

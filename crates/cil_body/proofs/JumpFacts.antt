@@ -1,5 +1,5 @@
 -- Where the jumps of an instruction lead to.
-use Rattle.std.proofs.Common.{◌≡◌, ◌⊎◌, ℕ, zero, suc, ◌+◌, ◌*◌, ◌<◌, ◌≤◌, ℤ, pos, true, false, List, [], ◌∷◌, ◌++◌, length, get_or, take, drop, map, Result, Ok, Err, refl, sym, ◌∙◌, ap, subst, inl, inr, arith}
+use Rattle.std.proofs.Common.{◌≡◌, ℕ, zero, suc, ◌+◌, ◌*◌, ◌<◌, ◌≤◌, ℤ, pos, true, false, List, [], ◌∷◌, ◌++◌, length, get_or, take, drop, map, Result, Ok, Err, refl, sym, ◌∙◌, ap, subst, inl, inr, arith}
 use Rattle.std.specs.Prelude.{All, Contains}
 use Rattle.std.specs.Result.{is_ok}
 use Rattle.std.specs.Ordering.{nat_cmp}
@@ -16,7 +16,7 @@ use Rattle.cil_body.specs.declared.opcode.Operand.{Operand}
 use Rattle.cil_body.specs.declared.opcode.Operand.TheVariants.{Target8, Target32, Switch}
 use Rattle.cil_body.specs.declared.instruction.Found.{Found}
 use Rattle.cil_body.specs.Instruction.{number_of, instruction_at, numbers}
-use Rattle.cil_body.specs.Code.{Placed, AreInOrder, HasCases, jumps_by, aim_of, place_of, HasAim, IsAimed, IsTarget, IsInstr, AreAims, AreTargets, IsAimFault, instr_of, starts_of}
+use Rattle.cil_body.specs.Code.{Placed, AreInOrder, HasCases, jumps_by, aim_of, place_of, HasAim, IsAimed, IsTarget, IsInstr, AreTargets, IsAimFault, instr_of, starts_of}
 use Rattle.cil_body.specs.First.{IsFirstOff}
 use Rattle.cil_body.specs.declared.body.Instr.{Instr}
 use Rattle.cil_body.specs.declared.fault.BodyCause.TheVariants.{BadTarget}
@@ -129,10 +129,9 @@ instrs-more code starts placed i d items instr l is so_far =
 pub aim_fault :
     (code : List ℕ) (placed : List Placed) (starts : List ℕ) (start i : ℕ) (d : Placed) → starts ≡ starts_of placed → i < length placed → All (IsAimed code starts) (take i placed) → (IsAimed code starts (get_or placed i d) → ⊥)
     → IsAimFault code placed start (Fault (record { cause = BadTarget; at = start + (get_or placed i d).0 }))
-aim_fault code placed starts start i d is l all off =
-    (
-      get_or placed i d,
-      subst (λ (s : List ℕ). IsFirstOff (IsAimed code s) placed (get_or placed i d)) is (first_off (IsAimed code starts) placed i d l all off),
-      refl,
-      refl,
-    )
+aim_fault code placed starts start i d is l all off = (
+  get_or placed i d,
+  subst (λ (s : List ℕ). IsFirstOff (IsAimed code s) placed (get_or placed i d)) is (first_off (IsAimed code starts) placed i d l all off),
+  refl,
+  refl,
+)

@@ -140,7 +140,7 @@ fn targets(
     requires short { length bytes.now ≤ 2 ^ 31 }
     requires read { instruction_at bytes.now ≡ Ok found }
     requires order { AreInOrder starts.now }
-    ensures { IfOk result (λ targets. MatchOption targets (AreAims starts.now (at, found) (jumps_by found.operand found.simple.arg bytes.now) → ⊥) (λ places. AreTargets starts.now (at, found) (jumps_by found.operand found.simple.arg bytes.now) places.items)) }
+    ensures { let jumps = jumps_by found.operand found.simple.arg bytes.now in IfOk result (λ targets. MatchOption targets (AreAims starts.now (at, found) jumps → ⊥) (λ places. AreTargets starts.now (at, found) jumps places.items)) }
 {
     let mut targets = Vec::new(alloc);
     for k in 0..jumps(found, bytes) {

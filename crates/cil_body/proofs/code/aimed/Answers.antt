@@ -1,9 +1,9 @@
-use Rattle.std.proofs.Common.{◌≡◌, ◌+◌, ◌<◌, ◌≤◌, ℕ, List, [], length, get_or, take, drop, Ok, rules, arith, refl, sym, ◌∙◌, subst}
+use Rattle.std.proofs.Common.{[], length, sym, subst}
 use Rattle.std.specs.Prelude.{All}
 use Rattle.std.proofs.lemmas.List.{take_all}
 use Rattle.std.proofs.lemmas.List.Elements.{All-more}
 use Rattle.std.proofs.lemmas.Option.{MatchOption-at_none, MatchOption-at_some}
-use Rattle.cil_body.specs.Code.{Placed, IsAimed, AreInOrder}
+use Rattle.cil_body.specs.Code.{IsAimed, AreInOrder}
 use Rattle.cil_body.proofs.CodeFacts.{Reads-before, Reads-at, place_fits, starts-ordered}
 use Rattle.cil_body.proofs.JumpFacts.{instrs-more, aim_fault}
 use Rattle.cil_body.proofs.code.aimed.Goals as goal

@@ -1,4 +1,4 @@
-use Rattle.std.proofs.Common.{◌≡◌, ◌+◌, ◌≤◌, length, drop, Ok, refl, sym, arith}
+use Rattle.std.proofs.Common.{◌+◌, refl, sym, arith}
 use Rattle.std.proofs.lemmas.List.{length-drop}
 use Rattle.cil_body.proofs.CodeFacts.{Reads-more, tail_is}
 use Rattle.cil_body.proofs.code.cut.Goals as goal

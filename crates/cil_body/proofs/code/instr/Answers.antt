@@ -1,4 +1,4 @@
-use Rattle.std.proofs.Common.{◌≡◌, ℕ, ℤ, List, take, drop, rules, refl, sym, subst, to_z, of_z, w64}
+use Rattle.std.proofs.Common.{◌≡◌, ℕ, List, rules, refl, sym, subst, to_z, of_z, w64}
 use Rattle.std.proofs.lemmas.Int.{to_z-of_z}
 use Rattle.std.proofs.lemmas.Option.{MatchOption-at_none, MatchOption-at_some}
 use Rattle.cil_body.specs.Code.{jumps_by, AreAims, AreTargets}

@@ -1,4 +1,4 @@
-use Rattle.std.proofs.Common.{◌≡◌, ℕ, pos, rules, sym, subst, ◌∙◌}
+use Rattle.std.proofs.Common.{◌≡◌, ℕ, pos, rules, sym, subst}
 use Rattle.std.specs.Prelude.{Contains}
 use Rattle.cil_body.proofs.JumpFacts.{search_miss}
 use Rattle.cil_body.proofs.code.start_at.Goals as goal

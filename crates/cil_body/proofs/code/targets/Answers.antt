@@ -1,4 +1,4 @@
-use Rattle.std.proofs.Common.{◌≡◌, ◌<◌, ◌≤◌, ℤ, pos, List, length, get_or, rules, arith, sym, ◌∙◌, subst, to_z, of_z, w64, w32}
+use Rattle.std.proofs.Common.{◌≡◌, ◌<◌, ◌≤◌, ℤ, pos, length, rules, arith, sym, ◌∙◌, subst, to_z, of_z, w64, w32}
 use Rattle.std.specs.Int.RustNames.{FitsSigned}
 use Rattle.std.proofs.lemmas.Int.{to_z-of_z}
 use Rattle.cil_body.specs.Code.{jumps_by, HasAim, IsTarget}

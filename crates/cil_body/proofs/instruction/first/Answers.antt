@@ -1,6 +1,6 @@
 -- The sizes follow from what is read.
-use Rattle.std.proofs.Common.{◌≡◌, ◌∙◌, ap}
-use Rattle.cil_body.specs.Instruction.{instruction_at, with_code}
+use Rattle.std.proofs.Common.{◌≡◌, ◌∙◌}
+use Rattle.cil_body.specs.Instruction.{instruction_at}
 use Rattle.cil_body.proofs.InstructionFacts.{if_read-some, if_read-within, instruction_at-prefixed, instruction_at-unprefixed}
 use Rattle.cil_body.proofs.instruction.first.Goals as goal
 

@@ -1,5 +1,5 @@
 -- Each exit of the function is one of the cases of the definition.
-use Rattle.std.proofs.Common.{◌≡◌, ◌<◌, ◌≤◌, length, arith, rules, sym, to_z, of_z, w64, ap, ◌∙◌}
+use Rattle.std.proofs.Common.{◌≡◌, ◌≤◌, length, arith, rules, sym, to_z, of_z, w64, ◌∙◌}
 use Rattle.std.proofs.lemmas.Int.{to_z-of_z}
 use Rattle.cil_body.specs.Instruction.{operand_size}
 use Rattle.cil_body.proofs.InstructionFacts.{operand_len-le, with_entry-short, with_entry-whole}
