@@ -59,7 +59,7 @@ pub(crate) fn first(bytes: &[u8]) -> Result<Found, BodyCause>
     }
 }
 
-// The instruction of whose opcode's two bytes the first is the prefix, and the second the first of these.
+// The instruction with an opcode of two bytes, where these stand behind the prefix.
 fn prefixed(bytes: &[u8]) -> Result<Found, BodyCause>
     requires { length bytes.now ≤ 2 ^ 31 }
     ensures { result ≡ prefixed bytes.now }
