@@ -12,7 +12,7 @@ use Rattle.cil_body.specs.declared.instruction.Found.{Found}
 use Rattle.cil_body.specs.declared.fault.BodyCause.{BodyCause}
 use Rattle.cil_body.specs.declared.fault.BodyCause.TheVariants.{Truncated}
 use Rattle.cil_body.specs.Opcode.{Line, operand_len, entry_of}
-use Rattle.cil_body.specs.Instruction.{number_of, operand_size, with_line, with_entry, with_code, cause_of, prefixed, instruction_at}
+use Rattle.cil_body.specs.Instruction.{number_of, operand_size, with_line, with_entry, with_code, prefixed, instruction_at}
 
 -- the instruction that a line of the table makes of the bytes behind its opcode
 abbrev pub made_of : ℕ → Line → List ℕ → Found
@@ -33,10 +33,7 @@ with_line-short len e bytes h = grind arith
 pub with_line-whole : (len : ℕ) (e : Line) (bytes : List ℕ) → operand_size e.2 bytes ≤ length bytes → with_line len e bytes ≡ Ok (made_of len e bytes)
 with_line-whole len e bytes h = grind arith
 
--- an opcode without a line, and one with an operand that passes the bytes or doesn't
-pub with_entry-none : (len code : ℕ) (line : Option Line) (bytes : List ℕ) → line ≡ None → Err (cause_of code) ≡ with_entry len code line bytes
-with_entry-none len code line bytes h = rw h refl
-
+-- an opcode with an operand that passes the bytes, and one with an operand that doesn't
 pub with_entry-short :
     (len code : ℕ) (line : Option Line) (e : Line) (bytes : List ℕ) → line ≡ Some e → length bytes < operand_size e.2 bytes → Err Truncated ≡ with_entry len code line bytes
 with_entry-short len code line e bytes h short = rw h (sym (with_line-short len e bytes short))
