@@ -1,4 +1,8 @@
 pub mod Table
+pub mod FirstFacts
+pub mod JumpFacts
+pub mod CodeFacts
+pub mod InstructionFacts
 pub mod Cut
 pub mod Walk
 pub mod Break

@@ -1,6 +1,6 @@
 -- Code that is cut into instructions without gap, and where they lead (ECMA-335 II.25.4, III.1.2.1, III.3). Places in the
 -- code count from its first byte.
-use Rattle.std.specs.Prelude.{◌≡◌, ◌≢◌, ℕ, ◌+◌, ◌≤◌, ◌<◌, ℤ, pos, negsuc, ◌+ℤ◌, List, [], ◌∷◌, length, take, drop, map, slice_index, Ok, Err, All, Contains}
+use Rattle.std.specs.Prelude.{◌≡◌, ◌≢◌, ℕ, ◌+◌, ◌*◌, ◌≤◌, ◌<◌, ℤ, pos, negsuc, ◌+ℤ◌, List, [], ◌∷◌, length, take, drop, map, slice_index, Ok, Err, All, Contains}
 use Rattle.dc_base.specs.declared.failure.Or.{Or}
 use Rattle.dc_base.specs.declared.failure.Or.TheVariants.{NoMemory, Fault}
 use Rattle.cil_body.specs.declared.opcode.Operand.{Operand}
@@ -83,6 +83,27 @@ abbrev pub place_of : ℤ → ℕ
 place_of (pos n) = n
 place_of (negsuc n) = 0
 
+-- the cases of a switch are all there
+abbrev pub HasCases : Operand → List ℕ → Type 0
+HasCases operand bytes = operand ≡ Switch → 5 + 4 * little_number 4 (drop 1 bytes) ≤ length bytes
+
+-- an instruction starts at this place
+abbrev pub IsStart : List ℕ → ℤ → Type 0
+IsStart starts place = (start : ℕ) × (pos start ≡ place) × Contains starts start
+
+-- the jump leads to this place, and an instruction starts there
+abbrev pub IsTarget : List ℕ → Placed → ℤ → ℕ → Type 0
+IsTarget starts e jump place = (pos place ≡ aim_of e jump) × Contains starts place
+
+-- each of these jumps leads to the start of an instruction
+abbrev pub AreAims : List ℕ → Placed → List ℤ → Type 0
+AreAims starts e jumps = All (HasAim starts e) jumps
+
+-- besides, these are the places that they lead to
+abbrev pub AreTargets : List ℕ → Placed → List ℤ → List ℕ → Type 0
+AreTargets starts e jumps places =
+    AreAims starts e jumps × (places ≡ map (λ jump. place_of (aim_of e jump)) jumps)
+
 -- an instruction with the places that its jumps lead to
 abbrev pub instr_of : List ℕ → Placed → ℕ × Instr
 instr_of bytes e = (
@@ -93,6 +114,10 @@ instr_of bytes e = (
     targets = map (λ jump. place_of (aim_of e jump)) (jumps_of bytes e);
   },
 )
+
+-- the jumps of the instruction are aimed, and this is it with the places that they lead to
+abbrev pub IsInstr : List ℕ → List ℕ → Placed → Instr → Type 0
+IsInstr bytes starts e instr = IsAimed bytes starts e × (instr ≡ (instr_of bytes e).1)
 
 -- the places rise
 abbrev pub AreInOrder : List ℕ → Type 0

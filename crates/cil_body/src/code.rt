@@ -1,8 +1,12 @@
 // Code, cut into its instructions, and where they lead.
 
-ghost use Rattle.std.specs.Prelude.{◌≡◌, ◌≤◌, ◌^◌, [], length, map, All, IfOk, IfErr};
+ghost use Rattle.std.specs.Prelude.{◌≡◌, ◌+◌, ◌*◌, ◌<◌, ◌≤◌, ◌^◌, pos, [], length, drop, map, slice_index_or, Ok, All, Contains, IfOk, IfErr, MatchOption};
+ghost use Rattle.std.specs.Int.{cast_signed, w32};
+ghost use Rattle.std.specs.Int.RustNames.{FitsSigned};
+ghost use Rattle.byteorder.specs.Endian.{little_number};
+ghost use Rattle.cil_body.specs.Instruction.{instruction_at};
 ghost use Rattle.cil_body.specs.Header.{IsHeader};
-ghost use Rattle.cil_body.specs.Code.{IsWhole, code_of, Reads, IsAimed, IsCutFault, IsAimFault, starts_of, instr_of};
+ghost use Rattle.cil_body.specs.Code.{IsWhole, code_of, Reads, IsAimed, IsCutFault, IsAimFault, starts_of, instr_of, jumps_by, HasCases, AreInOrder, HasAim, IsStart, IsTarget, IsInstr, AreAims, AreTargets};
 ghost use Rattle.cil_body.specs.Body.{IsBodyFault};
 
 use crate::body::Instr;
@@ -68,7 +72,7 @@ pub fn cut(alloc: Global, code: &[u8], start: usize) -> Result<Vec<(u32, Found)>
 pub fn starts(alloc: Global, placed: &[(u32, Found)]) -> Result<Vec<u32>, NoMemory>
     ensures { IfOk result (λ starts. starts.items ≡ starts_of placed.now) }
 {
-    Ok(placed.iter().map(|(at, _)| *at).collect(alloc)?)
+    Ok(placed.iter().map(|placed| placed.0).collect(alloc)?)
 }
 
 /// The instructions with the places that they lead to, at each of which one starts.
@@ -89,21 +93,39 @@ pub fn aimed(
 {
     let mut instrs = Vec::new(alloc);
     for (at, found) in placed {
-        let bytes = &code[*at as usize..];
-        let Some(targets) = targets(alloc, bytes, starts, *at, *found)? else {
+        let Some(instr) = instr(alloc, code, starts, *at, *found)? else {
             return Err(Or::Fault(BodyFault {
                 cause: BodyCause::BadTarget,
                 at: start as u32 + *at,
             }));
         };
-        let instr = Instr {
-            op: found.simple.op,
-            arg: found.simple.arg,
-            targets: Seq::of(targets),
-        };
         instrs.push((*at, instr))?;
     }
     Ok(instrs)
+}
+
+// The instruction at a place with the places that it leads to, if one starts at each.
+fn instr(
+    alloc: Global,
+    code: &[u8],
+    starts: &[u32],
+    at: u32,
+    found: Found,
+) -> Result<Option<Instr>, NoMemory>
+    requires short { length code.now ≤ 2 ^ 31 }
+    requires within { at ≤ length code.now }
+    requires read { instruction_at (drop at code.now) ≡ Ok found }
+    requires order { AreInOrder starts.now }
+    ensures { IfOk result (λ instr. MatchOption instr (IsAimed code.now starts.now (at, found) → ⊥) (IsInstr code.now starts.now (at, found))) }
+{
+    let Some(targets) = targets(alloc, &code[at as usize..], starts, at, found)? else {
+        return Ok(None);
+    };
+    Ok(Some(Instr {
+        op: found.simple.op,
+        arg: found.simple.arg,
+        targets: Seq::of(targets),
+    }))
 }
 
 // The places that an instruction's jumps lead to, if an instruction starts at each. The bytes are those of the code from
@@ -114,10 +136,15 @@ fn targets(
     starts: &[u32],
     at: u32,
     found: Found,
-) -> Result<Option<Vec<u32>>, NoMemory> {
+) -> Result<Option<Vec<u32>>, NoMemory>
+    requires short { length bytes.now ≤ 2 ^ 31 }
+    requires read { instruction_at bytes.now ≡ Ok found }
+    requires order { AreInOrder starts.now }
+    ensures { let jumps = jumps_by found.operand found.simple.arg bytes.now in IfOk result (λ targets. MatchOption targets (AreAims starts.now (at, found) jumps → ⊥) (λ places. AreTargets starts.now (at, found) jumps places.items)) }
+{
     let mut targets = Vec::new(alloc);
     for k in 0..jumps(found, bytes) {
-        let Some(target) = target(starts, at, found.size, jump(found, bytes, k)) else {
+        let Some(target) = target(starts, at, found, jump(found, bytes, k)) else {
             return Ok(None);
         };
         targets.push(target)?;
@@ -126,24 +153,66 @@ fn targets(
 }
 
 // How many jumps an instruction has.
-fn jumps(found: Found, bytes: &[u8]) -> usize {
+fn jumps(found: Found, bytes: &[u8]) -> usize
+    requires { HasCases found.operand bytes.now }
+    ensures { result ≡ length (jumps_by found.operand found.simple.arg bytes.now) }
+{
     match found.operand {
         Operand::Target8 | Operand::Target32 => 1,
-        Operand::Switch => LittleEndian::read_u32(&bytes[1..]) as usize,
+        Operand::Switch => cases(bytes),
         _ => 0,
     }
 }
 
-// How far its jump goes that has this number.
-fn jump(found: Found, bytes: &[u8], k: usize) -> i64 {
+// How many cases a switch has.
+fn cases(bytes: &[u8]) -> usize
+    requires { 5 ≤ length bytes.now }
+    ensures { result ≡ little_number 4 (drop 1 bytes.now) }
+{
+    LittleEndian::read_u32(&bytes[1..]) as usize
+}
+
+// How far an instruction's jump goes that has this number.
+fn jump(found: Found, bytes: &[u8], k: usize) -> i64
+    requires short { length bytes.now ≤ 2 ^ 31 }
+    requires there { HasCases found.operand bytes.now }
+    requires within { k < length (jumps_by found.operand found.simple.arg bytes.now) }
+    ensures { result ≡ slice_index_or (jumps_by found.operand found.simple.arg bytes.now) k (pos 0) }
+{
     match found.operand {
-        Operand::Switch => i64::from(LittleEndian::read_i32(&bytes[5 + 4 * k..])),
+        Operand::Switch => case(bytes, k),
         _ => found.simple.arg,
     }
 }
 
-// Where a jump leads to from behind an instruction, if one starts there.
-fn target(starts: &[u32], at: u32, size: usize, jump: i64) -> Option<u32> {
-    let aim = u32::try_from(i64::from(at) + size as i64 + jump).ok()?;
-    starts.binary_search(&aim).ok().map(|_| aim)
+// How far a switch goes in the case that has this number.
+fn case(bytes: &[u8], k: usize) -> i64
+    requires short { length bytes.now ≤ 2 ^ 31 }
+    requires there { 9 + 4 * k ≤ length bytes.now }
+    ensures { result ≡ cast_signed w32 (little_number 4 (drop (5 + 4 * k) bytes.now)) }
+{
+    i64::from(LittleEndian::read_i32(&bytes[5 + 4 * k..]))
+}
+
+// Where an instruction's jump leads to, if one starts there.
+fn target(starts: &[u32], at: u32, found: Found, jump: i64) -> Option<u32>
+    requires short { found.size ≤ 2 ^ 31 }
+    requires near { FitsSigned w32 jump }
+    requires order { AreInOrder starts.now }
+    ensures { MatchOption result (HasAim starts.now (at, found) jump → ⊥) (IsTarget starts.now (at, found) jump) }
+{
+    start_at(starts, i64::from(at) + found.size as i64 + jump)
+}
+
+// This place, if an instruction starts there.
+fn start_at(starts: &[u32], place: i64) -> Option<u32>
+    requires { AreInOrder starts.now }
+    ensures { MatchOption result (IsStart starts.now place → ⊥) (λ start. (pos start ≡ place) × Contains starts.now start) }
+{
+    let start = u32::try_from(place).ok()?;
+    if starts.binary_search(&start).is_ok() {
+        Some(start)
+    } else {
+        None
+    }
 }

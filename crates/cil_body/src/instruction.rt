@@ -2,7 +2,7 @@
 
 ghost use Rattle.std.specs.Prelude.{◌≡◌, ◌≤◌, ◌<◌, ◌+◌, ◌^◌, length, drop, IfOk, IfErr, IsOkAnd};
 ghost use Rattle.cil_body.specs.Opcode.{operand_len, entry_of};
-ghost use Rattle.cil_body.specs.Instruction.{number_of, operand_size, instruction_at, with_code, cause_of};
+ghost use Rattle.cil_body.specs.Instruction.{number_of, operand_size, instruction_at, prefixed, with_code, cause_of};
 
 use crate::fault::{BodyCause, BodyFault};
 use crate::opcode::{LEFT_OUT, Op, Operand, PREFIX, TABLE};
@@ -49,19 +49,32 @@ pub(crate) fn first(bytes: &[u8]) -> Result<Found, BodyCause>
     ensures some { IfOk result (λ found. 0 < found.size) }
     ensures within { IfOk result (λ found. found.size ≤ length bytes.now) }
 {
-    match bytes {
-        [] | [PREFIX] => Err(BodyCause::Truncated),
-        [PREFIX, code, behind @ ..] => with_code(2, 0xFE00 + u16::from(*code), behind),
-        [code, behind @ ..] => with_code(1, u16::from(*code), behind),
+    let [code, behind @ ..] = bytes else {
+        return Err(BodyCause::Truncated);
+    };
+    if *code == PREFIX {
+        prefixed(behind)
+    } else {
+        with_code(1, u16::from(*code), behind)
     }
+}
+
+// The instruction with an opcode of two bytes, where these stand behind the prefix.
+fn prefixed(bytes: &[u8]) -> Result<Found, BodyCause>
+    requires { length bytes.now ≤ 2 ^ 31 }
+    ensures { result ≡ prefixed bytes.now }
+{
+    let [code, behind @ ..] = bytes else {
+        return Err(BodyCause::Truncated);
+    };
+    with_code(2, 0xFE00 + u16::from(*code), behind)
 }
 
 // The instruction with this opcode of so many bytes, and these bytes behind it.
 fn with_code(len: usize, code: u16, behind: &[u8]) -> Result<Found, BodyCause>
     requires short { length behind.now ≤ 2 ^ 31 }
     requires one_or_two { len ≤ 2 }
-    ensures read { result ≡ with_code len code behind.now }
-    ensures within { IfOk result (λ found. found.size ≤ len + length behind.now) }
+    ensures { result ≡ with_code len code behind.now }
 {
     let Some((_, op, operand)) = entry(code) else {
         return Err(refused(code));
