@@ -1,4 +1,5 @@
 pub mod Opcode
+pub mod Standard
 pub mod Instruction
 pub mod Number
 pub mod First

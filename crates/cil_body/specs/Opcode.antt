@@ -65,11 +65,3 @@ row_of SubOp = Binary Sub
 row_of MulOp = Binary Mul
 row_of Ret = Return
 row_of _ = Beyond
-
--- each instruction has a line of the table
-abbrev pub HasEach : Type 0
-HasEach = (op : Op) → (code : ℕ) × (operand : Operand) × (entry_of code ≡ Some (code, op, operand))
-
--- no opcode of the table is one of those that are left out
-abbrev pub HasNoLeftOut : Type 0
-HasNoLeftOut = (code : ℕ) → Contains LEFT_OUT code → entry_of code ≡ None

@@ -1,11 +1,13 @@
 // What follows from the definitions, for the crates above.
 
-ghost use Rattle.cil_body.specs.Opcode.{HasEach, HasNoLeftOut};
+ghost use Rattle.cil_body.specs.Standard.{HasEach, HasNoOther, HasNoLeftOut};
 ghost use Rattle.cil_body.specs.Laws.{HasOneCode, HasNoFault, HasOneFault, CodeWalks, OperandsFit, CodeIsConsecutive, PlacesAreWithin, HasOneBody, BodyHasNoFault, BodyHasOneFault, BodyHasRanges, HasOneTree, TreeHasNoFault, TreeHasOneFault};
 
-/// The table has a line for each instruction, and none for an opcode that is left out.
-pub fn table_has_each()
+/// The table is that of the standard: it has the instructions with their opcodes and operands, nothing else, and none of
+/// the opcodes that are left out.
+pub fn table_is_the_standards()
     ensures each { HasEach }
+    ensures no_other { HasNoOther }
     ensures no_left_out { HasNoLeftOut }
 {}
 

@@ -28,7 +28,7 @@ pub use fault::{BodyCause, BodyFault};
 pub use instruction::{Simple, next};
 pub use laws::{
     balance_is_a_walk, body_has_ranges, code_fills_the_file, one_body, one_reading,
-    one_region_tree, table_has_each,
+    one_region_tree, table_is_the_standards,
 };
 pub use opcode::{LEFT_OUT, Op, Operand, PREFIX, Row, Source, TABLE, Two};
 pub use region::{Region, RegionFault, RegionKind, RegionTree, regions};

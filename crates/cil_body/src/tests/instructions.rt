@@ -299,7 +299,10 @@ fn other_opcodes_are_left_out_or_bad(rt: HostRuntime) {
         let alone = u16::from(byte);
         let is_left_out = LEFT_OUT_ALONE.contains(&byte);
         let bytes = [byte, 0, 0, 0, 0, 0, 0, 0, 0];
-        assert!(rt; byte == 0xFE || is_refused(&bytes, alone, is_left_out), "{byte}");
+        assert!(rt;
+            byte == 0xFE || is_refused(&bytes, alone, is_left_out),
+            "{byte}"
+        );
         let behind = 0xFE00 + u16::from(byte);
         let is_left_out = LEFT_OUT_BEHIND.contains(&byte);
         assert!(rt;

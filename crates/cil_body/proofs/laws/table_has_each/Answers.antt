@@ -1,8 +1,0 @@
-use Rattle.cil_body.proofs.Table.{each, no_left_out}
-use Rattle.cil_body.proofs.laws.table_has_each.Goals as goal
-
-pub returns-clause-each : goal.returns-clause-each
-returns-clause-each c = each
-
-pub returns-clause-no_left_out : goal.returns-clause-no_left_out
-returns-clause-no_left_out c = no_left_out
