@@ -30,6 +30,6 @@ pub use laws::{
     balance_is_a_walk, body_has_ranges, code_fills_the_file, one_body, one_reading,
     one_region_tree, table_is_the_standards,
 };
-pub use opcode::{LEFT_OUT, Op, Operand, PREFIX, Row, Source, TABLE, Two};
+pub use opcode::{LEFT_OUT, Op, Operand, Row, Source, TABLE, Two};
 pub use region::{Region, RegionFault, RegionKind, RegionTree, regions};
 pub use standalone::{LoneFault, lone};
