@@ -5,3 +5,7 @@ pub mod Fields
 pub mod Reading
 pub mod Parts
 pub mod Above
+pub mod Inside
+pub mod Order
+pub mod Spans
+pub mod Begun

@@ -16,10 +16,14 @@ mod fault;
 mod header;
 mod instruction;
 mod laws;
+mod nesting;
 mod opcode;
 mod region;
+mod rethrow;
 mod section;
+mod span;
 mod standalone;
+mod tree;
 
 pub use body::{Body, Clause, ClauseKind, Instr, decode};
 pub use fault::{BodyCause, BodyFault};

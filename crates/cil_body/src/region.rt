@@ -4,6 +4,10 @@ ghost use Rattle.std.specs.Prelude.{◌≡◌, ◌≤◌, ◌^◌, length, IfOk,
 ghost use Rattle.cil_body.specs.Region.{HasRanges, IsRegionTree, IsRegionsRefused};
 
 use crate::body::Body;
+use crate::nesting::{crossing, loose};
+use crate::rethrow::misplaced;
+use crate::span::{firsts, ordered};
+use crate::tree::{nodes, too_deep};
 use dc_base::{Or, Seq, Token};
 use std::alloc::Global;
 
@@ -60,7 +64,28 @@ pub fn regions(alloc: Global, body: &Body) -> Result<RegionTree, Or<RegionFault>
     ensures tree { IfOk result (IsRegionTree body.now) }
     ensures fault { IfErr result (IsRegionsRefused body.now) }
 {
-    let nodes = Vec::new(alloc);
+    let clauses = body.clauses.items();
+    let firsts = firsts(alloc, clauses)?;
+    let spans = ordered(alloc, body, firsts.as_slice())?;
+    if let Some(place) = crossing(spans.as_slice()) {
+        return Err(Or::Fault(RegionFault::Nest(place)));
+    }
+    let nodes = nodes(alloc, spans.as_slice())?;
+    if let Some(place) = loose(
+        alloc,
+        clauses,
+        firsts.as_slice(),
+        spans.as_slice(),
+        nodes.as_slice(),
+    )? {
+        return Err(Or::Fault(RegionFault::Nest(place)));
+    }
+    if let Some(place) = misplaced(body.code.items(), nodes.as_slice()) {
+        return Err(Or::Fault(RegionFault::RethrowPlace(place)));
+    }
+    if let Some(place) = too_deep(alloc, nodes.as_slice())? {
+        return Err(Or::Fault(RegionFault::TooDeep(place)));
+    }
     Ok(RegionTree {
         nodes: Seq::of(nodes),
     })

@@ -1,0 +1,44 @@
+// Where a rethrow may stand.
+
+ghost use Rattle.std.specs.Prelude.{◌≡◌, ◌≤◌, ◌^◌, length, All, IfOk};
+
+use crate::body::Instr;
+use crate::opcode::Op;
+use crate::region::{Region, RegionKind};
+use crate::span::is_try;
+use crate::tree::reaching;
+
+/// The place of the first rethrow that stands in no catch, or in a finally inside it.
+pub fn misplaced(code: &[(u32, Instr)], nodes: &[Region]) -> Option<u32> {
+    for (place, instr) in code {
+        if instr.op == Op::Rethrow && !is_in_catch(nodes, *place) {
+            return Some(*place);
+        }
+    }
+    None
+}
+
+// Whether the innermost region about the place that is no try is a catch.
+fn is_in_catch(nodes: &[Region], place: u32) -> bool {
+    match handling(nodes, place) {
+        Some(at) => is_catch(nodes[at].kind),
+        None => false,
+    }
+}
+
+fn is_catch(kind: RegionKind) -> bool {
+    match kind {
+        RegionKind::Catch(_) => true,
+        _ => false,
+    }
+}
+
+// The number of the innermost region about the place that is no try.
+fn handling(nodes: &[Region], place: u32) -> Option<usize> {
+    let begun = nodes.partition_point(|node| node.from <= place);
+    let mut at = reaching(&nodes[..begun], place)?;
+    while is_try(nodes[at].kind) {
+        at = nodes[at].parent as usize;
+    }
+    Some(at)
+}
