@@ -27,9 +27,9 @@ later_parts r s h =
     elim (or_cases (ltb r.first s.first) (eqb r.first s.first && is_try s.kind && not (is_try r.kind)) h) [
       | inl less ↦ inl (ltb-true r.first s.first less)
       | inr same ↦
-        let outer = and_parts (eqb r.first s.first && is_try s.kind) (not (is_try r.kind)) same in
-        let inner = and_parts (eqb r.first s.first) (is_try s.kind) outer.0 in
-        inr (eqb-true r.first s.first inner.0, inner.1, not-true (is_try r.kind) outer.1)
+          let outer = and_parts (eqb r.first s.first && is_try s.kind) (not (is_try r.kind)) same in
+          let inner = and_parts (eqb r.first s.first) (is_try s.kind) outer.0 in
+          inr (eqb-true r.first s.first inner.0, inner.1, not-true (is_try r.kind) outer.1)
     ]
 
 later_from : (r s : Span) → IsLater r s → is_later r s ≡ true
@@ -37,10 +37,10 @@ later_from r s h =
     elim h [
       | inl less ↦ or_left (ltb r.first s.first) (eqb r.first s.first && is_try s.kind && not (is_try r.kind)) (lt-ltb r.first s.first less)
       | inr same ↦
-        or_right (ltb r.first s.first) (eqb r.first s.first && is_try s.kind && not (is_try r.kind))
-        (and_from (eqb r.first s.first && is_try s.kind) (not (is_try r.kind))
-         (and_from (eqb r.first s.first) (is_try s.kind) (eq-eqb r.first s.first same.0) same.1)
-         (not_from_false (is_try r.kind) same.2))
+          or_right (ltb r.first s.first) (eqb r.first s.first && is_try s.kind && not (is_try r.kind))
+          (and_from (eqb r.first s.first && is_try s.kind) (not (is_try r.kind))
+          (and_from (eqb r.first s.first) (is_try s.kind) (eq-eqb r.first s.first same.0) same.1)
+          (not_from_false (is_try r.kind) same.2))
     ]
 
 pub inside_parts : (r s : Span) → is_inside r s ≡ true → IsWithin r s
@@ -61,8 +61,8 @@ inside_from r s w =
     and_from (lies_in r s) (not (lies_in s r) || is_later r s) (lies_from r s w.starts w.ends)
     (elim (cases_Bool (lies_in s r)) [
       | inl lies ↦
-        let back = lies_parts s r lies in
-        or_right (not (lies_in s r)) (is_later r s) (later_from r s (w.later back.0 back.1))
+          let back = lies_parts s r lies in
+          or_right (not (lies_in s r)) (is_later r s) (later_from r s (w.later back.0 back.1))
       | inr off ↦ or_left (not (lies_in s r)) (is_later r s) (not_from_false (lies_in s r) off)
     ])
 
@@ -88,8 +88,8 @@ inside_trans a b c h k =
       starts = omega (arith, u.starts, v.starts);
       ends = omega (arith, u.ends, v.ends);
       later = λ p q. later_trans a b c
-        (u.later (omega (arith, v.starts)) (omega (arith, v.ends)))
-        (v.later (omega (arith, u.starts)) (omega (arith, u.ends)));
+          (u.later (omega (arith, v.starts)) (omega (arith, v.ends)))
+          (v.later (omega (arith, u.starts)) (omega (arith, u.ends)));
     }
 
 pub inside_asym : (a b : Span) → is_inside a b ≡ true → is_inside b a ≡ true → ⊥

@@ -9,3 +9,4 @@ pub mod Inside
 pub mod Order
 pub mod Spans
 pub mod Begun
+pub mod Ordered

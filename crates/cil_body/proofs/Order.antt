@@ -32,8 +32,8 @@ pub key_total : IsTotalOrder key_cmp
 key_total =
     then_total
     (then_total
-     (then_total (on_total (λ (r : Span). r.from) nat_cmp_total) (on_total (λ (r : Span). r.to) (back_total nat_cmp_total)))
-     (on_total (λ (r : Span). r.first) (back_total nat_cmp_total)))
+    (then_total (on_total (λ (r : Span). r.from) nat_cmp_total) (on_total (λ (r : Span). r.to) (back_total nat_cmp_total)))
+    (on_total (λ (r : Span). r.first) (back_total nat_cmp_total)))
     (on_total (λ (r : Span). not (is_try r.kind)) bool_cmp_total)
 
 -- where the key of s isn't less
@@ -56,11 +56,14 @@ before_kind r s h k l named off =
       | inl tr ↦ elim (cases_Bool (is_try s.kind)) [
         | inl ts ↦ absurd (named l (tr ∙ sym ts))
         | inr fs ↦
-          inr (h, inside_from s r record {
-            starts = omega (arith, h);
-            ends = omega (arith, k);
-            later = λ a b. inr (sym l, tr, fs);
-          })
+            inr (
+              h,
+              inside_from s r record {
+                starts = omega (arith, h);
+                ends = omega (arith, k);
+                later = λ a b. inr (sym l, tr, fs);
+              },
+            )
       ]
       | inr fr ↦ elim (cases_Bool (is_try s.kind)) [
         | inl ts ↦ absurd (both_ways (key_less s r) off (by_kind r s (sym h) k l ts fr))
@@ -75,7 +78,7 @@ before_number r s h k named off =
       | inr apart ↦ elim apart [
         | inl l ↦ absurd (both_ways (key_less s r) off (by_number r s (sym h) k l))
         | inr l ↦
-          inr (h, inside_from s r record { starts = omega (arith, h); ends = omega (arith, k); later = λ a b. inl l; })
+            inr (h, inside_from s r record { starts = omega (arith, h); ends = omega (arith, k); later = λ a b. inl l })
       ]
     ]
 
@@ -86,7 +89,7 @@ before_end r s h named off =
       | inr apart ↦ elim apart [
         | inl k ↦ absurd (both_ways (key_less s r) off (by_end r s (sym h) k))
         | inr k ↦
-          inr (h, inside_from s r record { starts = omega (arith, h); ends = omega (arith, k); later = λ a b. absurd (omega arith); })
+            inr (h, inside_from s r record { starts = omega (arith, h); ends = omega (arith, k); later = λ a b. absurd (omega arith) })
       ]
     ]
 

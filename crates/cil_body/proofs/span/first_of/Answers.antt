@@ -8,7 +8,7 @@ use Rattle.cil_body.proofs.span.first_of.Goals as goal
 pub returns : goal.returns
 returns c =
     let found =
-        position_from_yields_List (shares_try c.args.clause) _ _ c.position.result c.position.ensures.ran
-        (YieldsList-from_slice c.args.clauses.now cc)
-        (λ x b q k. search rules) in
+    position_from_yields_List (shares_try c.args.clause) _ _ c.position.result c.position.ensures.ran
+    (YieldsList-from_slice c.args.clauses.now cc)
+    (λ x b q k. search rules) in
     c.unwrap_or.ensures ∙ ap (λ o. unwrap_or o c.args.i) found

@@ -6,5 +6,5 @@ use Rattle.cil_body.proofs.span.firsts.Given as goal
 abbrev pub invariant-loop-i : goal.invariant-loop-i
 invariant-loop-i l = record {
   as_many : length l.firsts.items ≡ l.i;
-  each : (k : ℕ) (c : Clause) → k < l.i → get_or l.firsts.items k 0 ≡ first_of l.clauses k (get_or l.clauses k c)
+  each : (k : ℕ) (c : Clause) → k < l.i → get_or l.firsts.items k 0 ≡ first_of l.clauses k (get_or l.clauses k c);
 }
