@@ -10,3 +10,6 @@ pub mod Order
 pub mod Spans
 pub mod Begun
 pub mod Ordered
+pub mod Chain
+pub mod Nested
+pub mod Depth

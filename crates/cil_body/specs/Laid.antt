@@ -49,10 +49,15 @@ pub record IsLink (spans : List Span) (k : ℕ) (r : Span) (node : Region) : Typ
   pub reaches : (d : Span) → 0 < k → r.from < (slice_index_or spans node.parent d).to
   pub last : (i : ℕ) (d : Span) → node.parent < i → i < k → (slice_index_or spans i d).to ≤ r.from
 
--- each node is the region of its number
+-- the nodes are the first regions
+pub record AreLinks (spans : List Span) (nodes : List Region) : Type 0 where
+  pub few : length nodes ≤ length spans
+  pub each : (k : ℕ) (r : Span) (node : Region) → k < length nodes → IsLink spans k (slice_index_or spans k r) (slice_index_or nodes k node)
+
+-- the nodes are all regions
 pub record AreChained (spans : List Span) (nodes : List Region) : Type 0 where
+  pub links : AreLinks spans nodes
   pub as_many : length nodes ≡ length spans
-  pub each : (k : ℕ) (r : Span) (node : Region) → k < length spans → IsLink spans k (slice_index_or spans k r) (slice_index_or nodes k node)
 
 -- each node but the first has an earlier parent, and those between the two end by its start
 pub record AreLinked (nodes : List Region) : Type 0 where
