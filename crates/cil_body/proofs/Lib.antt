@@ -13,3 +13,5 @@ pub mod Ordered
 pub mod Chain
 pub mod Nested
 pub mod Depth
+pub mod Crossing
+pub mod Loose

@@ -1,11 +1,14 @@
 // The tree of regions, and how deep it is.
 
 ghost use Rattle.std.specs.Prelude.{◌≡◌, ◌≤◌, ◌^◌, length, All, IfOk, MatchOption};
-ghost use Rattle.cil_body.specs.Laid.{AreLaid, AreChained, AreLinked, IsReaching};
+ghost use Rattle.cil_body.specs.Laid.{AreLaid, AreChained, AreLinked, IsReaching, IsDepthAnswer};
 
 use crate::region::{Region, Span};
 use dc_base::NoMemory;
 use std::alloc::Global;
+
+// In how many others a region may stand.
+const DEPTH_LIMIT: u32 = 40;
 
 /// The nodes of spans that lie in order, each with the number of the last one before it that ends behind its start.
 pub fn nodes(alloc: Global, spans: &[Span]) -> Result<Vec<Region>, NoMemory>
@@ -42,8 +45,11 @@ pub fn reaching(nodes: &[Region], place: u32) -> Option<usize>
     Some(at)
 }
 
-/// The start of the first node that stands inside more than 40 others.
-pub fn too_deep(alloc: Global, nodes: &[Region]) -> Result<Option<u32>, NoMemory> {
+/// The start of the first node that stands inside more others than it may.
+pub fn too_deep(alloc: Global, nodes: &[Region]) -> Result<Option<u32>, NoMemory>
+    requires { AreLinked nodes.now }
+    ensures { IfOk result (IsDepthAnswer nodes.now) }
+{
     let mut depths = Vec::new(alloc);
     for (k, node) in nodes.iter().enumerate() {
         let depth = if k == 0 {
@@ -51,7 +57,7 @@ pub fn too_deep(alloc: Global, nodes: &[Region]) -> Result<Option<u32>, NoMemory
         } else {
             depths[node.parent as usize] + 1
         };
-        if depth > 40 {
+        if depth > DEPTH_LIMIT {
             return Ok(Some(node.from));
         }
         depths.push(depth)?;
