@@ -89,7 +89,7 @@ module _ (span : Span) where
   none_passes xs h k d lt =
       false_from_ne_true (passes (get_or xs k d))
       (λ t. both_ways (list_any passes xs) h
-       (list_any-from_Any passes xs (k, get_or xs k d, lt, get_or_default xs k (get_or xs k d) d lt, t)))
+      (list_any-from_Any passes xs (k, get_or xs k d, lt, get_or_default xs k (get_or xs k d) d lt, t)))
 
   pub crossed_in : (later : List Span) (found : Bool) → AreRising later → found ≡ list_any passes (take (prefix_len near later) later) → MatchBool found (Any (Crosses span) later) (All (λ other. Crosses span other → ⊥) later)
   crossed_in later true rise is =
@@ -120,14 +120,14 @@ module _ (spans : List Span) (ordered : AllPairs ComesBefore spans) (i : ℕ) (d
       elim (cases_lt a i) [
         | inl early ↦ before a b e early less inside
         | inr past ↦
-          let is : i ≡ a = omega arith in
-          let far : (i + 1) + (b - (i + 1)) ≡ b = omega arith in
-          let here : get_or (drop (i + 1) spans) (b - (i + 1)) e ≡ get_or spans b e =
+            let is : i ≡ a = omega arith in
+            let far : (i + 1) + (b - (i + 1)) ≡ b = omega arith in
+            let here : get_or (drop (i + 1) spans) (b - (i + 1)) e ≡ get_or spans b e =
             get_or-drop (i + 1) spans (b - (i + 1)) e ∙ ap (λ n. get_or spans n e) far in
-          let first : get_or spans i d ≡ get_or spans a e = get_or_default spans i d e within ∙ ap (λ n. get_or spans n e) is in
-          laminar_from (get_or spans a e) (get_or spans b e) (ordered a b e less inside)
-          (λ cross. none (b - (i + 1)) e (omega (arith, length-drop (i + 1) spans))
-           (subst (λ s. Crosses s (get_or (drop (i + 1) spans) (b - (i + 1)) e)) (sym first)
+            let first : get_or spans i d ≡ get_or spans a e = get_or_default spans i d e within ∙ ap (λ n. get_or spans n e) is in
+            laminar_from (get_or spans a e) (get_or spans b e) (ordered a b e less inside)
+            (λ cross. none (b - (i + 1)) e (omega (arith, length-drop (i + 1) spans))
+            (subst (λ s. Crosses s (get_or (drop (i + 1) spans) (b - (i + 1)) e)) (sym first)
             (subst (Crosses (get_or spans a e)) (sym here) cross)))
       ]
 
@@ -150,8 +150,8 @@ module _ (spans : List Span) (ordered : AllPairs ComesBefore spans) (i : ℕ) (d
           ]
         ]
         | inr past ↦
-          let rises = rising spans ordered i a d past c.2.1 in
-          omega (arith, rises, start, c.4)
+            let rises = rising spans ordered i a d past c.2.1 in
+            omega (arith, rises, start, c.4)
       ]
 
   pub least_crossing : Any (Crosses (get_or spans i d)) (drop (i + 1) spans) → IsLeast (CrossesAt spans) (get_or spans i d).from
@@ -159,10 +159,17 @@ module _ (spans : List Span) (ordered : AllPairs ComesBefore spans) (i : ℕ) (d
       let k = any.0 in
       let other = any.1 in
       let here : get_or spans (i + 1 + k) other ≡ other = sym (get_or-drop (i + 1) spans k other) ∙ any.3 in
-      let inside : i + 1 + k < length spans = omega (arith, any.2, length-drop (i + 1) spans) in
-      ((get_or spans i d, other, Contains-get_or spans i d within, (i + 1 + k, inside, here), refl,
-        never_laminar (get_or spans i d) other any.4),
-       none_sooner)
+      let inside : i + 1 + k < length spans = omega (arith, any.2, length-drop (i + 1) spans) in (
+        (
+          get_or spans i d,
+          other,
+          Contains-get_or spans i d within,
+          (i + 1 + k, inside, here),
+          refl,
+          never_laminar (get_or spans i d) other any.4,
+        ),
+        none_sooner,
+      )
 
 -- the slice from n on
 pub behind : (spans : List Span) (n : ℕ) → take (length spans - n) (drop n spans) ≡ drop n spans

@@ -15,3 +15,4 @@ pub mod Nested
 pub mod Depth
 pub mod Crossing
 pub mod Loose
+pub mod Table

@@ -93,10 +93,10 @@ fn parents(
     ensures { IfOk result (λ parents. AreParents spans.now nodes.now tries count parents.items) }
 {
     let mut parents = vec![in alloc; 0; count]?;
-    for (span, node) in spans.iter().zip(nodes) {
+    for (k, span) in spans.iter().enumerate() {
         let first = span.first as usize;
         if is_try(span.kind) == tries && first < parents.len() {
-            parents[first] = node.parent;
+            parents[first] = nodes[k].parent;
         }
     }
     Ok(parents)

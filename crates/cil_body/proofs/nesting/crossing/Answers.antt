@@ -22,5 +22,5 @@ pub loop-i-preserved : goal.loop-i-preserved
 loop-i-preserved c =
     let spans = c.args.spans.now in
     let none =
-        subst (λ (later : List Span). All (λ other. Crosses (get_or spans c.loop-i.i no_span) other → ⊥) later) (behind spans (c.loop-i.i + 1)) c.if-is_crossed.ensures in
+    subst (λ (later : List Span). All (λ other. Crosses (get_or spans c.loop-i.i no_span) other → ⊥) later) (behind spans (c.loop-i.i + 1)) c.if-is_crossed.ensures in
     laminar_more spans c.requires c.loop-i.i no_span c.loop-i-test.true c.loop-i.invariant none

@@ -8,5 +8,5 @@ pub returns : goal.returns
 returns c =
     crossed_in c.args.span c.args.later.now c.any.result c.requires
     (any_from_yields_List (passes c.args.span) _ _ _ c.any.ensures.ran
-     (YieldsList-from_take_while _ (near c.args.span) (YieldsList-from_slice c.args.later.now cc) c.take_while.ensures.closure c.take_while.ensures.done (λ x b q k. search rules))
-     (λ x b q k. search rules))
+    (YieldsList-from_take_while _ (near c.args.span) (YieldsList-from_slice c.args.later.now cc) c.take_while.ensures.closure c.take_while.ensures.done (λ x b q k. search rules))
+    (λ x b q k. search rules))

@@ -1,5 +1,8 @@
 use Rattle.std.proofs.Common.{◌≡◌, ℕ, ◌<◌, length, get_or}
+use Rattle.cil_body.specs.declared.region.Region.{Region}
+use Rattle.cil_body.specs.declared.region.Span.{Span}
+use Rattle.cil_body.proofs.Table.{AreParentsUpto}
 use Rattle.cil_body.proofs.nesting.parents.Given as goal
 
-abbrev pub invariant-loop-span : goal.invariant-loop-span
-invariant-loop-span l = length l.parents.items ≡ l.count
+abbrev pub invariant-loop-k : goal.invariant-loop-k
+invariant-loop-k l = AreParentsUpto l.spans l.nodes l.tries l.count l.k l.parents.items
