@@ -16,3 +16,5 @@ pub mod Depth
 pub mod Crossing
 pub mod Loose
 pub mod Table
+pub mod First
+pub mod Whole
