@@ -18,3 +18,4 @@ pub mod Loose
 pub mod Table
 pub mod First
 pub mod Whole
+pub mod Partner
