@@ -19,3 +19,4 @@ pub mod Table
 pub mod First
 pub mod Whole
 pub mod Partner
+pub mod Laminar

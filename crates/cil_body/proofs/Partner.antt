@@ -24,10 +24,10 @@ use Rattle.cil_body.proofs.Whole.{are_laid}
 
 pub parent_permuted : (xs ys : List Span) (r p : Span) → IsPermutation xs ys → IsParent xs r p → IsParent ys r p
 parent_permuted xs ys r p moved h = record {
-    among = Contains-permutation xs ys p moved h.among;
-    inside = h.inside;
-    innermost = λ q has. h.innermost q (Contains-permutation ys xs q (IsPermutation-sym xs ys moved) has);
-  }
+  among = Contains-permutation xs ys p moved h.among;
+  inside = h.inside;
+  innermost = λ q has. h.innermost q (Contains-permutation ys xs q (IsPermutation-sym xs ys moved) has);
+}
 
 handler_is_none : (c : Clause) (k : ClauseKind) → is_try (handler_kind c k) ≡ false
 handler_is_none c Catch = refl
@@ -67,16 +67,18 @@ module _ (body : Body) (spans : List Span) (nodes : List Region) (h : HasRanges 
 
   place_of : (r : Span) → (r.kind ≡ Code → ⊥) → Contains (spans_of body) r → (k : ℕ) × IsAt r k
   place_of r part among =
-      let has = Contains-permutation (spans_of body) spans r ordered.all among in
-      (has.0, record {
-        pos = elim (cases_order has.0 0) [
-          | inl is ↦
-            absurd (part (ap (λ (s : Span). s.kind) (sym has.2 ∙ ap (λ n. get_or spans n r) is) ∙ (are_laid body spans h ordered).whole r))
-          | inr apart ↦ elim apart [ inl less ↦ absurd (omega arith) | inr more ↦ more ]
-        ];
-        within = has.1;
-        is = has.2;
-      })
+      let has = Contains-permutation (spans_of body) spans r ordered.all among in (
+        has.0,
+        record {
+          pos = elim (cases_order has.0 0) [
+            | inl is ↦
+                absurd (part (ap (λ (s : Span). s.kind) (sym has.2 ∙ ap (λ n. get_or spans n r) is) ∙ (are_laid body spans h ordered).whole r))
+            | inr apart ↦ elim apart [ inl less ↦ absurd (omega arith) | inr more ↦ more ]
+          ];
+          within = has.1;
+          is = has.2;
+        },
+      )
 
   parent_of : (r : Span) (k : ℕ) → IsAt r k → IsParent spans r (get_or spans (parent_number k) r)
   parent_of r k at = subst (λ s. IsParent spans s (get_or spans (parent_number k) r)) at.is (parent_at k r at.pos at.within).1
@@ -89,8 +91,8 @@ module _ (body : Body) (spans : List Span) (nodes : List Region) (h : HasRanges 
       let inside : parent_number b < length spans = omega (arith, before_b, at_s.within) in
       same_number (parent_number a) (parent_number b) r (omega (arith, before_a, at_r.within)) inside
       (one_parent spans r (get_or spans (parent_number a) r) p (parent_of r a at_r) of_r
-       ∙ one_parent spans s p (get_or spans (parent_number b) s) of_s (parent_of s b at_s)
-       ∙ get_or_default spans (parent_number b) s r inside)
+      ∙ one_parent spans s p (get_or spans (parent_number b) s) of_s (parent_of s b at_s)
+      ∙ get_or_default spans (parent_number b) s r inside)
 
   same_parent : (r s : Span) (a b : ℕ) → IsAt r a → IsAt s b → parent_number a ≡ parent_number b → IsParent spans s (get_or spans (parent_number a) r)
   same_parent r s a b at_r at_s same =
@@ -125,25 +127,26 @@ module _ (body : Body) (spans : List Span) (nodes : List Region) (h : HasRanges 
           let at = handler_at.1 in
           let number : (get_or spans handler_at.0 (handler_of i c)).first ≡ i = ap (λ (s : Span). s.first) at.is in
           let table =
-            of_handlers.each handler_at.0 (handler_of i c) no_node at.within (ap (λ (s : Span). is_try s.kind) at.is ∙ handler_is_none c c.kind) (omega (arith, number, has.0)) in
+          of_handlers.each handler_at.0 (handler_of i c) no_node at.within (ap (λ (s : Span). is_try s.kind) at.is ∙ handler_is_none c c.kind) (omega (arith, number, has.0)) in
           ap (λ n. get_or handlers n 0) (sym number) ∙ table
 
       agree_from_share : ShareParent body i c → AgreeAt firsts tries handlers i
       agree_from_share share =
           try_parent
           ∙ one_number (try_of body.clauses i c) (handler_of i c) share.0 try_at.0 handler_at.0 try_at.1 handler_at.1
-            (parent_permuted (spans_of body) spans (try_of body.clauses i c) share.0 ordered.all share.1)
-            (parent_permuted (spans_of body) spans (handler_of i c) share.0 ordered.all share.2)
+          (parent_permuted (spans_of body) spans (try_of body.clauses i c) share.0 ordered.all share.1)
+          (parent_permuted (spans_of body) spans (handler_of i c) share.0 ordered.all share.2)
           ∙ sym handler_parent
 
       share_from_agree : AgreeAt firsts tries handlers i → ShareParent body i c
       share_from_agree agree =
           let same : parent_number try_at.0 ≡ parent_number handler_at.0 = sym try_parent ∙ agree ∙ handler_parent in
           let back = IsPermutation-sym (spans_of body) spans ordered.all in
-          let p = get_or spans (parent_number try_at.0) (try_of body.clauses i c) in
-          (p,
-           parent_permuted spans (spans_of body) (try_of body.clauses i c) p back (parent_of (try_of body.clauses i c) try_at.0 try_at.1),
-           parent_permuted spans (spans_of body) (handler_of i c) p back (same_parent (try_of body.clauses i c) (handler_of i c) try_at.0 handler_at.0 try_at.1 handler_at.1 same))
+          let p = get_or spans (parent_number try_at.0) (try_of body.clauses i c) in (
+            p,
+            parent_permuted spans (spans_of body) (try_of body.clauses i c) p back (parent_of (try_of body.clauses i c) try_at.0 try_at.1),
+            parent_permuted spans (spans_of body) (handler_of i c) p back (same_parent (try_of body.clauses i c) (handler_of i c) try_at.0 handler_at.0 try_at.1 handler_at.1 same),
+          )
 
     loose_from : (place : ℕ) → DisagreeAt body.clauses firsts tries handlers (length body.clauses) place → IsLooseAt body place
     loose_from place d = (d.0, d.1, (d.2, d.3), (λ share. d.4 (agree_from_share d.0 d.1 (d.2, d.3) share)), d.5)

@@ -36,19 +36,23 @@ parts : (body : Body) → HasRanges body → All (IsWholeOrPart body) (spans_of 
 parts body h =
     All-spans body (IsWholeOrPart body)
     (λ i c has first.
-      let range = subst (IsRange body.size) has.1 (h.ranges i c has.0) in
-      (range.try_within, inr record {
+    let range = subst (IsRange body.size) has.1 (h.ranges i c has.0) in (
+      range.try_within,
+      inr record {
         numbered = omega (arith, first, has.0);
         wide = omega (arith, range.some_try);
         kind = λ e. cc;
-      }))
+      },
+    ))
     (λ i c has.
-      let range = subst (IsRange body.size) has.1 (h.ranges i c has.0) in
-      (range.handler_within, inr record {
+    let range = subst (IsRange body.size) has.1 (h.ranges i c has.0) in (
+      range.handler_within,
+      inr record {
         numbered = has.0;
         wide = omega (arith, range.some_handler);
         kind = handler_not_code c c.kind;
-      }))
+      },
+    ))
     (omega arith, inl refl)
 
 -- the whole code stands inside none of them
@@ -57,8 +61,8 @@ whole_outside body r h inside =
     elim h.1 [
       | inl is ↦ inside_asym (whole_code body) (whole_code body) (subst (λ s. is_inside (whole_code body) s ≡ true) is inside) (subst (λ s. is_inside (whole_code body) s ≡ true) is inside)
       | inr part ↦
-        let within = inside_parts (whole_code body) r inside in
-        elim (within.later (omega arith) h.0) [ inl less ↦ omega (arith, less, part.numbered) | inr same ↦ omega (arith, same.0, part.numbered) ]
+          let within = inside_parts (whole_code body) r inside in
+          elim (within.later (omega arith) h.0) [ inl less ↦ omega (arith, less, part.numbered) | inr same ↦ omega (arith, same.0, part.numbered) ]
     ]
 
 module _ (body : Body) (spans : List Span) (h : HasRanges body) (ordered : AreOrdered body spans) where
@@ -79,13 +83,13 @@ module _ (body : Body) (spans : List Span) (h : HasRanges body) (ordered : AreOr
         | inr apart ↦ elim apart [
           | inl less ↦ absurd (omega arith)
           | inr more ↦
-            let before = ordered.ordered 0 among.0 (whole_code body) more among.1 in
-            let outer = get_or spans 0 (whole_code body) in
-            let here : ComesBefore outer (whole_code body) = subst (ComesBefore outer) among.2 before in
-            absurd (elim here [
-              | inl less ↦ omega (arith, less)
-              | inr same ↦ whole_outside body outer (all_parts 0 (whole_code body) not_empty) same.1
-            ])
+              let before = ordered.ordered 0 among.0 (whole_code body) more among.1 in
+              let outer = get_or spans 0 (whole_code body) in
+              let here : ComesBefore outer (whole_code body) = subst (ComesBefore outer) among.2 before in
+              absurd (elim here [
+                | inl less ↦ omega (arith, less)
+                | inr same ↦ whole_outside body outer (all_parts 0 (whole_code body) not_empty) same.1
+              ])
         ]
       ]
 
@@ -93,8 +97,8 @@ module _ (body : Body) (spans : List Span) (h : HasRanges body) (ordered : AreOr
   part_behind k d pos lt =
       elim (all_parts k d lt).1 [
         | inl is ↦
-          let same : get_or spans 0 d ≡ get_or spans k d = whole_first d ∙ sym is in
-          absurd (ordered.named 0 k d pos lt (ap (λ (r : Span). r.first) same) (ap (λ (r : Span). is_try r.kind) same))
+            let same : get_or spans 0 d ≡ get_or spans k d = whole_first d ∙ sym is in
+            absurd (ordered.named 0 k d pos lt (ap (λ (r : Span). r.first) same) (ap (λ (r : Span). is_try r.kind) same))
         | inr part ↦ part
       ]
 

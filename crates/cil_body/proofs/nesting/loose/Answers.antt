@@ -17,5 +17,5 @@ returns c =
     (subst (λ (n : ℕ). AreParents spans nodes false n handlers) (ap length c.items-clauses.ensures) c.in_ok-handlers.ensures)
     found
     (subst (λ (cs : List Clause). IsLeastDisagreement cs firsts tries handlers (length cs) found) c.items-clauses.ensures
-     (subst (λ (hs : List ℕ). IsLeastDisagreement c.items-clauses.result.now firsts tries hs (length c.items-clauses.result.now) found) c.as_slice-2.ensures.value
-      (subst (λ (ts : List ℕ). IsLeastDisagreement c.items-clauses.result.now firsts ts c.as_slice-2.result.now (length c.items-clauses.result.now) found) c.as_slice.ensures.value c.disagreeing.ensures)))
+    (subst (λ (hs : List ℕ). IsLeastDisagreement c.items-clauses.result.now firsts tries hs (length c.items-clauses.result.now) found) c.as_slice-2.ensures.value
+    (subst (λ (ts : List ℕ). IsLeastDisagreement c.items-clauses.result.now firsts ts c.as_slice-2.result.now (length c.items-clauses.result.now) found) c.as_slice.ensures.value c.disagreeing.ensures)))

@@ -17,18 +17,18 @@ loop-k-preserved c =
     let old = c.loop-k.parents.items in
     elim c.if-is_try-tries.branch [
       | then-is_try-tries+then-first-len w ↦
-        let kind : is_try (get_or spans k no_span).kind ≡ tries = sym c.is_try.ensures ∙ (booleans_Decides c.is_try.result tries).0 w.if-is_try-tries.true in
-        subst (AreParentsUpto spans nodes tries c.args.count (k + 1)) (sym (ap (λ (v : Vec ℕ Global). v.items) w.parents-is))
-        (parents_more spans nodes tries c.args.count k old no_span no_node c.requires.named c.loop-k-test.true c.requires.as_many c.loop-k.invariant kind (omega arith))
+          let kind : is_try (get_or spans k no_span).kind ≡ tries = sym c.is_try.ensures ∙ (booleans_Decides c.is_try.result tries).0 w.if-is_try-tries.true in
+          subst (AreParentsUpto spans nodes tries c.args.count (k + 1)) (sym (ap (λ (v : Vec ℕ Global). v.items) w.parents-is))
+          (parents_more spans nodes tries c.args.count k old no_span no_node c.requires.named c.loop-k-test.true c.requires.as_many c.loop-k.invariant kind (omega arith))
       | else-is_try-tries w ↦ elim w.else-is_try-tries.branch [
         | else-is_try-tries-via-then-is_try-tries+else-first-len u ↦
-          subst (AreParentsUpto spans nodes tries c.args.count (k + 1)) (sym (ap (λ (v : Vec ℕ Global). v.items) w.parents-is))
-          (parents_kept spans nodes tries c.args.count k old no_span no_node c.requires.named c.loop-k-test.true c.requires.as_many c.loop-k.invariant
-           (λ kind below. omega arith))
+            subst (AreParentsUpto spans nodes tries c.args.count (k + 1)) (sym (ap (λ (v : Vec ℕ Global). v.items) w.parents-is))
+            (parents_kept spans nodes tries c.args.count k old no_span no_node c.requires.named c.loop-k-test.true c.requires.as_many c.loop-k.invariant
+            (λ kind below. omega arith))
         | else-is_try-tries-via-else-is_try-tries u ↦
-          subst (AreParentsUpto spans nodes tries c.args.count (k + 1)) (sym (ap (λ (v : Vec ℕ Global). v.items) w.parents-is))
-          (parents_kept spans nodes tries c.args.count k old no_span no_node c.requires.named c.loop-k-test.true c.requires.as_many c.loop-k.invariant
-           (λ kind below. both_ways (beq c.is_try.result tries) u.if-is_try-tries.false ((booleans_Decides c.is_try.result tries).1 (c.is_try.ensures ∙ kind))))
+            subst (AreParentsUpto spans nodes tries c.args.count (k + 1)) (sym (ap (λ (v : Vec ℕ Global). v.items) w.parents-is))
+            (parents_kept spans nodes tries c.args.count k old no_span no_node c.requires.named c.loop-k-test.true c.requires.as_many c.loop-k.invariant
+            (λ kind below. both_ways (beq c.is_try.result tries) u.if-is_try-tries.false ((booleans_Decides c.is_try.result tries).1 (c.is_try.ensures ∙ kind))))
       ]
     ]
 
