@@ -20,3 +20,4 @@ pub mod First
 pub mod Whole
 pub mod Partner
 pub mod Laminar
+pub mod Handling

@@ -90,6 +90,12 @@ pub record AreNested (nodes : List Region) : Type 0 where
   pub whole : (d : Region) → 0 < length nodes → (slice_index_or nodes 0 d).kind ≡ Code
   pub held : (k : ℕ) (d : Region) → 0 < k → k < length nodes → (slice_index_or nodes k d).to ≤ (slice_index_or nodes (slice_index_or nodes k d).parent d).to
 
+-- so many nodes begin by the place
+pub record AreBegun (nodes : List Region) (place n : ℕ) : Type 0 where
+  pub few : n ≤ length nodes
+  pub by : (i : ℕ) (d : Region) → i < n → (slice_index_or nodes i d).from ≤ place
+  pub behind : (i : ℕ) (d : Region) → n ≤ i → i < length nodes → place < (slice_index_or nodes i d).from
+
 -- the region holds the place, and is no try
 abbrev pub Handles : Region → ℕ → Type 0
 Handles node place = (node.from ≤ place) × (place < node.to) × (node.kind ≢ Try)

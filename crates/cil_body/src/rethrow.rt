@@ -1,8 +1,9 @@
 // Where a rethrow may stand.
 
 ghost use Rattle.std.specs.Prelude.{◌≡◌, ℕ, ◌≤◌, ◌<◌, length, slice_index_or, All, MatchBool, MatchOption};
+ghost use Rattle.std.specs.List.Sorted.{IsNonDecreasingBy};
 ghost use Rattle.cil_body.specs.Region.{IsCatchKind};
-ghost use Rattle.cil_body.specs.Laid.{AreNested, Handles, IsHandling, IsCaught, IsFineBy, IsOffBy};
+ghost use Rattle.cil_body.specs.Laid.{AreNested, AreBegun, Handles, IsHandling, IsCaught, IsFineBy, IsOffBy};
 
 use crate::body::Instr;
 use crate::opcode::Op;
@@ -48,10 +49,17 @@ fn handling(nodes: &[Region], place: u32) -> Option<usize>
     requires { AreNested nodes.now }
     ensures { MatchOption result (All (λ node. Handles node place → ⊥) nodes.now) (IsHandling nodes.now place) }
 {
-    let begun = nodes.partition_point(|node| node.from <= place);
-    let mut at = reaching(&nodes[..begun], place)?;
+    let mut at = reaching(&nodes[..begun(nodes, place)], place)?;
     while is_try(nodes[at].kind) {
         at = nodes[at].parent as usize;
     }
     Some(at)
+}
+
+// How many nodes begin by the place.
+fn begun(nodes: &[Region], place: u32) -> usize
+    requires { IsNonDecreasingBy (λ (node : Region). node.from) nodes.now }
+    ensures { AreBegun nodes.now place result }
+{
+    nodes.partition_point(|node| node.from <= place)
 }
