@@ -21,3 +21,5 @@ pub mod Whole
 pub mod Partner
 pub mod Laminar
 pub mod Handling
+pub mod Deep
+pub mod Caught
