@@ -1,14 +1,13 @@
 -- Nodes that know the last one before them that ends behind their start.
-use Rattle.std.proofs.Common.{◌≡◌, ℕ, zero, suc, ◌+◌, ◌<◌, ◌≤◌, Option, Some, None, List, [], ◌∷◌, ◌++◌, length, get_or, ◌⊎◌, inl, inr, sym, refl, ap, ◌∙◌, subst, arith, length-append}
+use Rattle.std.proofs.Common.{◌≡◌, ℕ, ◌+◌, ◌<◌, ◌≤◌, Option, Some, None, List, [], ◌∷◌, ◌++◌, length, get_or, inl, inr, sym, refl, ap, ◌∙◌, subst, arith, length-append}
 use Rattle.std.proofs.lemmas.Bool.{cases_lt, cases_order}
 use Rattle.std.proofs.Math.ListN.{get_or-append}
 use Rattle.std.proofs.lemmas.List.{get_or_default, get_or_push}
-use Rattle.std.specs.List.{All, AllPairs}
+use Rattle.std.specs.List.{All}
 use Rattle.std.specs.Option.{MatchOption, unwrap_or}
 use Rattle.cil_body.specs.declared.region.RegionKind.TheVariants.{Code}
 use Rattle.cil_body.specs.declared.region.Region.{Region}
 use Rattle.cil_body.specs.declared.region.Span.{Span}
-use Rattle.cil_body.specs.Region.{ComesBefore}
 use Rattle.cil_body.specs.Laid.{AreLaid, IsLink, AreLinks, AreLinked, IsReaching}
 
 -- what stands past the end of a list

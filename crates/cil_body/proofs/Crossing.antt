@@ -1,16 +1,16 @@
 -- Regions that cross one another.
-use Rattle.std.proofs.Common.{◌≡◌, ℕ, zero, suc, ◌+◌, ◌-◌, ◌<◌, ◌≤◌, Bool, true, false, ◌&&◌, eqb, ltb, List, [], ◌∷◌, length, get_or, take, drop, ◌⊎◌, inl, inr, sym, refl, ap, ◌∙◌, subst, arith, get_or-take, length-take, length-drop}
+use Rattle.std.proofs.Common.{◌≡◌, ℕ, ◌+◌, ◌-◌, ◌<◌, Bool, true, false, ◌&&◌, ltb, List, length, get_or, take, drop, inl, inr, sym, refl, ap, ◌∙◌, subst, arith, get_or-take, length-take, length-drop}
 use Rattle.std.proofs.lemmas.Bool.{both_ways, ltb-true, ltb-false, lt-ltb, and_parts, and_from, cases_lt, cases_order, false_from_ne_true}
 use Rattle.std.proofs.lemmas.List.{get_or_default, get_or-drop, take_all}
 use Rattle.std.proofs.lemmas.List.Elements.{Contains-get_or}
 use Rattle.std.proofs.lemmas.List.Folds.{Any-from_list_any, list_any-from_Any}
 use Rattle.std.proofs.lemmas.List.Sums.{prefix_len_passes, prefix_len_stops, prefix_len-le-length}
 use Rattle.std.specs.Bool.{MatchBool}
-use Rattle.std.specs.List.{All, AllPairs, Any, Contains, list_any, prefix_len}
+use Rattle.std.specs.List.{All, AllPairs, Any, list_any, prefix_len}
 use Rattle.cil_body.specs.declared.region.Span.{Span}
-use Rattle.cil_body.specs.Region.{lies_in, is_inside, AreLaminar, ComesBefore, CrossesAt, IsLeast}
+use Rattle.cil_body.specs.Region.{AreLaminar, ComesBefore, CrossesAt, IsLeast}
 use Rattle.cil_body.specs.Laid.{AreRising, Crosses}
-use Rattle.cil_body.proofs.Inside.{IsWithin, inside_parts, lies_from, lies_parts}
+use Rattle.cil_body.proofs.Inside.{inside_parts, lies_from, lies_parts}
 
 pub laminar_from : (r s : Span) → ComesBefore r s → (Crosses r s → ⊥) → AreLaminar r s
 laminar_from r s before none =

@@ -1,10 +1,9 @@
 -- The depths of nodes, one after another.
-use Rattle.std.proofs.Common.{◌≡◌, ℕ, zero, suc, ◌+◌, ◌<◌, ◌≤◌, List, [], ◌∷◌, ◌++◌, length, get_or, ◌⊎◌, inl, inr, sym, refl, ap, ◌∙◌, subst, arith, length-append}
+use Rattle.std.proofs.Common.{◌≡◌, ℕ, ◌+◌, ◌<◌, ◌≤◌, List, [], ◌∷◌, ◌++◌, length, get_or, inl, inr, sym, ap, ◌∙◌, arith, length-append}
 use Rattle.std.proofs.Math.ListN.{get_or-append}
 use Rattle.std.proofs.lemmas.Bool.{cases_lt, cases_order}
 use Rattle.std.proofs.lemmas.List.{get_or_default, get_or_push}
 use Rattle.cil_body.specs.declared.region.Region.{Region}
-use Rattle.cil_body.specs.Region.{depth_limit}
 use Rattle.cil_body.specs.Laid.{AreLinked, AreDepths, IsTooDeep}
 
 module _ (nodes : List Region) (depths : List ℕ) (k depth : ℕ) (e : Region) (linked : AreLinked nodes) (many : length depths ≡ k) (within : k < length nodes) (h : AreDepths nodes depths) (first : k ≡ 0 → depth ≡ 0) (more : 0 < k → depth ≡ get_or depths (get_or nodes k e).parent 0 + 1) where

@@ -1,5 +1,5 @@
 -- The innermost region about a place that is no try.
-use Rattle.std.proofs.Common.{◌≡◌, ◌≢◌, ℕ, zero, suc, ◌+◌, ◌<◌, ◌≤◌, Bool, true, false, Option, Some, None, List, length, get_or, take, ◌⊎◌, inl, inr, sym, refl, ap, ◌∙◌, subst, arith, get_or-take, length-take}
+use Rattle.std.proofs.Common.{◌≡◌, ◌≢◌, ℕ, ◌<◌, ◌≤◌, Bool, true, false, List, length, get_or, take, inl, inr, sym, refl, ap, ◌∙◌, subst, arith, get_or-take, length-take}
 use Rattle.std.proofs.Common.{leb}
 use Rattle.std.proofs.lemmas.Bool.{leb-true, leb-false, cases_lt, cases_order}
 use Rattle.std.specs.Bool.{MatchBool}

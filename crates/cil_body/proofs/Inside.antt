@@ -1,6 +1,6 @@
 -- When one region stands inside another.
-use Rattle.std.proofs.Common.{◌≡◌, ℕ, ◌+◌, ◌<◌, ◌≤◌, Bool, true, false, not, ◌&&◌, ◌||◌, eqb, ltb, leb, ◌⊎◌, inl, inr, sym, refl, ◌∙◌, arith}
-use Rattle.std.proofs.lemmas.Bool.{false≢true, both_ways, not-true, not_from_false, ltb-true, leb-true, eqb-true, lt-ltb, le-leb, eq-eqb, and_parts, and_from, or_cases, or_left, or_right, cases_Bool, cases_order}
+use Rattle.std.proofs.Common.{◌≡◌, ◌<◌, ◌≤◌, true, false, not, ◌&&◌, ◌||◌, eqb, ltb, leb, ◌⊎◌, inl, inr, arith}
+use Rattle.std.proofs.lemmas.Bool.{both_ways, not-true, not_from_false, ltb-true, leb-true, eqb-true, lt-ltb, le-leb, eq-eqb, and_parts, and_from, or_cases, or_left, or_right, cases_Bool}
 use Rattle.cil_body.specs.declared.region.Span.{Span}
 use Rattle.cil_body.specs.Region.{lies_in, is_try, is_later, is_inside}
 

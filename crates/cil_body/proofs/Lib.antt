@@ -23,3 +23,5 @@ pub mod Laminar
 pub mod Handling
 pub mod Deep
 pub mod Caught
+pub mod Depths
+pub mod Made

@@ -1,15 +1,11 @@
 -- Clauses whose try and handler have not one parent.
-use Rattle.std.proofs.Common.{◌≡◌, ℕ, zero, suc, ◌+◌, ◌<◌, ◌≤◌, min, Bool, true, false, Option, Some, None, List, [], ◌∷◌, length, get_or, set, ◌⊎◌, inl, inr, sym, refl, ap, ◌∙◌, subst, arith, get_or-set_same, get_or-set_other, length-set}
-use Rattle.std.proofs.lemmas.Bool.{cases_lt, cases_order}
+use Rattle.std.proofs.Common.{◌≡◌, ℕ, ◌+◌, ◌<◌, min, Option, Some, None, List, length, get_or, ◌⊎◌, inl, inr, sym, ap, ◌∙◌, subst, arith}
+use Rattle.std.proofs.lemmas.Bool.{cases_lt}
 use Rattle.std.proofs.lemmas.List.{get_or_default}
-use Rattle.std.specs.List.{AllPairs}
 use Rattle.std.specs.Option.{MatchOption}
 use Rattle.cil_body.specs.declared.body.Clause.{Clause}
 use Rattle.cil_body.specs.declared.body.ClauseKind.TheVariants.{Catch}
-use Rattle.cil_body.specs.declared.region.Region.{Region}
-use Rattle.cil_body.specs.declared.region.Span.{Span}
-use Rattle.cil_body.specs.Region.{is_try, IsLeast}
-use Rattle.cil_body.specs.Laid.{DifferInName, AreParents, AgreeAt, DisagreeAt, IsLeastDisagreement}
+use Rattle.cil_body.specs.Laid.{AgreeAt, DisagreeAt, IsLeastDisagreement}
 
 -- what stands past the end of a list
 abbrev pub no_clause : Clause

@@ -1,13 +1,13 @@
 -- The parent of a region is the last one before it that ends behind its start, where any two are laminar.
-use Rattle.std.proofs.Common.{◌≡◌, ℕ, zero, suc, ◌+◌, ◌<◌, ◌≤◌, Bool, true, false, List, [], ◌∷◌, length, get_or, ◌⊎◌, inl, inr, sym, refl, ap, ◌∙◌, subst, arith}
+use Rattle.std.proofs.Common.{◌≡◌, ℕ, ◌<◌, ◌≤◌, true, List, length, get_or, ◌⊎◌, inl, inr, sym, ap, ◌∙◌, subst, arith}
 use Rattle.std.proofs.lemmas.Bool.{cases_order}
 use Rattle.std.proofs.lemmas.List.{get_or_default}
 use Rattle.std.proofs.lemmas.List.Elements.{Contains-get_or}
-use Rattle.std.specs.List.{All, AllPairs, Contains}
+use Rattle.std.specs.List.{AllPairs}
 use Rattle.cil_body.specs.declared.region.Span.{Span}
-use Rattle.cil_body.specs.Region.{lies_in, is_inside, AreLaminar, ComesBefore, IsParent}
+use Rattle.cil_body.specs.Region.{is_inside, AreLaminar, IsParent}
 use Rattle.cil_body.specs.Laid.{AreLaid}
-use Rattle.cil_body.proofs.Inside.{IsWithin, inside_from, inside_parts, inside_asym, inside_trans, lies_parts}
+use Rattle.cil_body.proofs.Inside.{inside_from, inside_parts, inside_asym, lies_parts}
 use Rattle.cil_body.proofs.Chain.{starts_rise}
 
 -- one of two regions that overlap stands inside the other, which begins before it

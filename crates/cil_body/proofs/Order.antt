@@ -1,17 +1,17 @@
 -- Sorted regions stand in the order of their tree.
-use Rattle.std.proofs.Common.{◌≡◌, ℕ, ◌+◌, ◌<◌, ◌≤◌, Bool, true, false, not, eqb, ltb, Ordering, List, length, get_or, ◌⊎◌, inl, inr, sym, refl, ap, ◌∙◌, arith}
-use Rattle.std.proofs.lemmas.Bool.{true≢false, both_ways, cases_Bool, cases_order}
+use Rattle.std.proofs.Common.{◌≡◌, ℕ, ◌<◌, Bool, true, false, not, Ordering, List, get_or, inl, inr, sym, refl, ◌∙◌, arith}
+use Rattle.std.proofs.lemmas.Bool.{both_ways, cases_Bool, cases_order}
 use Rattle.std.proofs.lemmas.Cmp.{nat_cmp_total}
 use Rattle.std.proofs.lemmas.List.Sorted.{ranks_by, sorted_far}
 use Rattle.std.specs.Cmp.{IsTotalOrder, bool_cmp_total, nat_cmp_is, on_total, back_total, then_total}
 use Rattle.std.specs.List.{AllPairs}
 use Rattle.std.specs.List.Sorted.{IsSortedBy}
 use Rattle.std.specs.Ordering.{nat_cmp, bool_cmp, ordering_then, is_lt}
-use Rattle.std.specs.declared.cmp.Ordering.TheVariants.{Less, Equal, Greater}
+use Rattle.std.specs.declared.cmp.Ordering.TheVariants.{Less, Equal}
 use Rattle.cil_body.specs.declared.region.Span.{Span}
-use Rattle.cil_body.specs.Region.{is_try, is_inside, ComesBefore}
+use Rattle.cil_body.specs.Region.{is_try, ComesBefore}
 use Rattle.cil_body.specs.Laid.{DifferInName}
-use Rattle.cil_body.proofs.Inside.{IsWithin, inside_from}
+use Rattle.cil_body.proofs.Inside.{inside_from}
 
 less : (a b : ℕ) → a < b → nat_cmp a b ≡ Less
 less a b h = sym (nat_cmp_is a b Less h)

@@ -1,17 +1,17 @@
 -- The sorted regions of a body are all of them in the order of its tree.
-use Rattle.std.proofs.Common.{◌≡◌, ℕ, zero, suc, ◌⊎◌, inl, inr, ◌+◌, ◌<◌, ◌≤◌, Bool, true, false, not, ◌&&◌, eqb, List, [], ◌∷◌, length, get_or, sym, refl, ap, ◌∙◌, subst, arith}
-use Rattle.std.proofs.lemmas.Bool.{false≢true, both_ways, eqb-true, eq-eqb, and_parts, and_from, false_from_ne_true, cases_Bool}
-use Rattle.std.proofs.lemmas.List.Elements.{All-head, All-tail, All-weaker, All-from_recursion, recursion_from_All}
+use Rattle.std.proofs.Common.{◌≡◌, ℕ, suc, inl, inr, Bool, true, false, not, ◌&&◌, eqb, List, [], ◌∷◌, sym, ◌∙◌, subst, arith}
+use Rattle.std.proofs.lemmas.Bool.{both_ways, eqb-true, eq-eqb, and_parts, and_from, false_from_ne_true, cases_Bool}
+use Rattle.std.proofs.lemmas.List.Elements.{All-weaker, All-from_recursion, recursion_from_All}
 use Rattle.std.proofs.lemmas.List.Kept.{AllPairs-cons}
 use Rattle.std.proofs.lemmas.Map.Keys.{IsDistinct-IsPermutation}
 use Rattle.std.specs.Cmp.{booleans_Decides}
 use mathlib.Core.Bool.{beq}
-use Rattle.std.specs.List.{All, AllPairs, IsDistinct}
+use Rattle.std.specs.List.{AllPairs, IsDistinct}
 use Rattle.std.specs.List.Sorted.{IsPermutation, IsSortedBy}
 use Rattle.std.specs.declared.cmp.Reverse.{Reverse}
 use Rattle.cil_body.specs.declared.body.Body.{Body}
 use Rattle.cil_body.specs.declared.region.Span.{Span}
-use Rattle.cil_body.specs.Region.{is_try, spans_of, ComesBefore}
+use Rattle.cil_body.specs.Region.{is_try, spans_of}
 use Rattle.cil_body.specs.Laid.{DifferInName, AreOrdered}
 use Rattle.cil_body.proofs.Order.{key_less, ordered_from_sorted}
 use Rattle.cil_body.proofs.Spans.{spans_apart}

@@ -1,5 +1,5 @@
 -- A clause's try and its handler have one parent where the tables of parents say so.
-use Rattle.std.proofs.Common.{◌≡◌, ℕ, zero, suc, ◌+◌, ◌<◌, ◌≤◌, Bool, true, false, Option, Some, None, List, [], ◌∷◌, length, get_or, ◌⊎◌, inl, inr, sym, refl, ap, ◌∙◌, subst, arith}
+use Rattle.std.proofs.Common.{◌≡◌, ℕ, ◌<◌, true, false, Option, Some, None, List, length, get_or, inl, inr, sym, refl, ap, ◌∙◌, subst, arith}
 use Rattle.std.proofs.lemmas.Bool.{cases_order}
 use Rattle.std.proofs.lemmas.List.{get_or_default}
 use Rattle.std.proofs.lemmas.List.Sorted.{Contains-permutation, IsPermutation-sym}
@@ -10,14 +10,13 @@ use Rattle.cil_body.specs.declared.body.Body.{Body}
 use Rattle.cil_body.specs.declared.body.Clause.{Clause}
 use Rattle.cil_body.specs.declared.body.ClauseKind.{ClauseKind}
 use Rattle.cil_body.specs.declared.body.ClauseKind.TheVariants.{Catch, Finally}
-use Rattle.cil_body.specs.declared.region.RegionKind.{RegionKind}
-use Rattle.cil_body.specs.declared.region.RegionKind.TheVariants.{Code, Try}
+use Rattle.cil_body.specs.declared.region.RegionKind.TheVariants.{Code}
 use Rattle.cil_body.specs.declared.region.Region.{Region}
 use Rattle.cil_body.specs.declared.region.Span.{Span}
 use Rattle.cil_body.specs.Region.{HasRanges, HasClause, first_of, try_of, handler_of, handler_kind, spans_of, is_try, AreLaminar, IsParent, ShareParent, IsLooseAt, IsLeast}
-use Rattle.cil_body.specs.Laid.{AreFirsts, AreOrdered, AreLaid, AreChained, AreParents, AgreeAt, DisagreeAt, IsLeastDisagreement}
+use Rattle.cil_body.specs.Laid.{AreFirsts, AreOrdered, AreChained, AreParents, AgreeAt, DisagreeAt, IsLeastDisagreement}
 use Rattle.cil_body.proofs.Chain.{no_node}
-use Rattle.cil_body.proofs.First.{IsFirst, first_is}
+use Rattle.cil_body.proofs.First.{first_is}
 use Rattle.cil_body.proofs.Nested.{parent_is, one_parent}
 use Rattle.cil_body.proofs.Spans.{try_among, handler_among}
 use Rattle.cil_body.proofs.Whole.{are_laid}

@@ -1,20 +1,19 @@
 -- In the order of the tree the whole code comes first.
-use Rattle.std.proofs.Common.{◌≡◌, ◌≢◌, ℕ, zero, suc, ◌+◌, ◌*◌, ◌^◌, ◌<◌, ◌≤◌, Bool, true, false, eqb, List, [], ◌∷◌, ◌++◌, length, get_or, ◌⊎◌, inl, inr, sym, refl, ap, ◌∙◌, subst, arith}
-use Rattle.std.proofs.lemmas.Bool.{cases_order, cases_lt, cond_both}
+use Rattle.std.proofs.Common.{◌≡◌, ◌≢◌, ℕ, zero, ◌^◌, ◌<◌, ◌≤◌, true, eqb, List, [], ◌∷◌, ◌++◌, length, get_or, ◌⊎◌, inl, inr, sym, refl, ap, ◌∙◌, subst, arith}
+use Rattle.std.proofs.lemmas.Bool.{cases_order, cond_both}
 use Rattle.std.proofs.lemmas.List.{get_or_default}
 use Rattle.std.proofs.lemmas.List.Concat.{length-flat_map}
-use Rattle.std.proofs.lemmas.List.Elements.{Contains-append_left, All-get_or}
 use Rattle.std.proofs.lemmas.List.FromFn.{length-enumerate_from}
 use Rattle.std.proofs.lemmas.List.Sorted.{All-permutation, Contains-permutation, length_permutation}
 use Rattle.std.proofs.lemmas.List.Sums.{sum_by-le}
-use Rattle.std.specs.List.{All, AllPairs, Contains, flat_map, enumerate_from}
+use Rattle.std.specs.List.{All, Contains, enumerate_from}
 use Rattle.cil_body.specs.declared.body.Body.{Body}
 use Rattle.cil_body.specs.declared.body.Clause.{Clause}
 use Rattle.cil_body.specs.declared.body.ClauseKind.{ClauseKind}
 use Rattle.cil_body.specs.declared.body.ClauseKind.TheVariants.{Catch, Finally}
-use Rattle.cil_body.specs.declared.region.RegionKind.TheVariants.{Code, Try}
+use Rattle.cil_body.specs.declared.region.RegionKind.TheVariants.{Code}
 use Rattle.cil_body.specs.declared.region.Span.{Span}
-use Rattle.cil_body.specs.Region.{HasRanges, HasClause, IsRange, first_of, try_of, handler_of, handler_kind, begun_by, whole_code, spans_of, is_try, is_inside, ComesBefore}
+use Rattle.cil_body.specs.Region.{HasRanges, IsRange, first_of, try_of, handler_of, handler_kind, begun_by, whole_code, spans_of, is_try, is_inside, ComesBefore}
 use Rattle.cil_body.specs.Laid.{AreOrdered, AreLaid}
 use Rattle.cil_body.proofs.Inside.{inside_parts, inside_asym}
 use Rattle.cil_body.proofs.Spans.{All-spans}

@@ -1,12 +1,11 @@
 -- Regions in the order of their tree, and the nodes that they become.
-use Rattle.std.specs.Prelude.{◌≡◌, ◌≢◌, ◌⊎◌, ℕ, ◌+◌, ◌<◌, ◌≤◌, Bool, true, false, Option, Some, None, List, [], ◌∷◌, ◌++◌, ◌==◌, if◌then◌else◌, length, slice_index, slice_index_or, AllPairs, IsPermutation, IsTrue}
+use Rattle.std.specs.Prelude.{◌≡◌, ◌≢◌, ◌⊎◌, ℕ, ◌+◌, ◌<◌, ◌≤◌, Bool, Option, Some, None, List, [], ◌∷◌, ◌++◌, ◌==◌, if◌then◌else◌, length, slice_index, slice_index_or, AllPairs, IsPermutation}
 use Rattle.cil_body.specs.declared.body.Body.{Body}
 use Rattle.cil_body.specs.declared.body.Clause.{Clause}
-use Rattle.cil_body.specs.declared.region.RegionKind.{RegionKind}
 use Rattle.cil_body.specs.declared.region.RegionKind.TheVariants.{Code, Try}
 use Rattle.cil_body.specs.declared.region.Region.{Region}
 use Rattle.cil_body.specs.declared.region.Span.{Span}
-use Rattle.cil_body.specs.Region.{first_of, handler_of, spans_of, is_try, is_inside, ComesBefore, AreLaminar, IsLeast, IsCatchKind, depth_limit}
+use Rattle.cil_body.specs.Region.{first_of, handler_of, spans_of, is_try, ComesBefore, AreLaminar, IsLeast, IsCatchKind, depth_limit}
 use Rattle.cil_body.specs.First.{IsFirstOff}
 use Rattle.std.specs.List.Sorted.{IsNonDecreasingBy}
 use Rattle.cil_body.specs.declared.opcode.Op.TheVariants.{Rethrow}

@@ -1,4 +1,4 @@
-use Rattle.std.proofs.Common.{◌≡◌, ◌+◌, List, get_or, sym, subst}
+use Rattle.std.proofs.Common.{◌+◌, List, get_or, sym, subst}
 use Rattle.std.specs.List.{All, Any}
 use Rattle.cil_body.specs.declared.region.Span.{Span}
 use Rattle.cil_body.specs.Laid.{AreRising, Crosses}

@@ -1,6 +1,3 @@
-use Rattle.std.proofs.Common.{◌≡◌, ℕ, ◌<◌, length, get_or}
-use Rattle.cil_body.specs.declared.region.Region.{Region}
-use Rattle.cil_body.specs.declared.region.Span.{Span}
 use Rattle.cil_body.proofs.Table.{AreParentsUpto}
 use Rattle.cil_body.proofs.nesting.parents.Given as goal
 

@@ -1,4 +1,4 @@
-use Rattle.std.proofs.Common.{◌≤◌, ◌^◌, List, length, sym, subst, ap, ◌∙◌, arith}
+use Rattle.std.proofs.Common.{List, length, sym, subst, ap, arith}
 use Rattle.std.specs.List.{AllPairs}
 use Rattle.cil_body.specs.declared.region.Span.{Span}
 use Rattle.cil_body.specs.Region.{AreLaminar, CrossesAt, IsLeast}

@@ -4,7 +4,7 @@ use Rattle.std.specs.Option.{MatchOption}
 use Rattle.cil_body.specs.declared.region.Region.{Region}
 use Rattle.cil_body.specs.Laid.{Handles, IsHandling}
 use Rattle.cil_body.proofs.Chain.{no_node}
-use Rattle.cil_body.proofs.Handling.{front_linked, front_begun, none_handles, holding_from, behind_first, holding_up, handling_from}
+use Rattle.cil_body.proofs.Handling.{front_linked, front_begun, none_handles, holding_from, holding_up, handling_from}
 use Rattle.cil_body.proofs.rethrow.handling.Goals as goal
 
 pub reaching-requires-clause-linked : goal.reaching-requires-clause-linked

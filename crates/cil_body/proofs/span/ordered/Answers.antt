@@ -1,6 +1,5 @@
-use Rattle.std.proofs.Common.{rules, ◌≡◌, sym, subst}
+use Rattle.std.proofs.Common.{rules}
 use Rattle.std.proofs.lemmas.List.Sorted.{answers_always}
-use Rattle.cil_body.specs.declared.region.Span.{Span}
 use Rattle.cil_body.proofs.Ordered.{are_ordered, key}
 use Rattle.cil_body.proofs.span.ordered.Goals as goal
 

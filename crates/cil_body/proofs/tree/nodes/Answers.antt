@@ -1,4 +1,4 @@
-use Rattle.std.proofs.Common.{rules, ◌≤◌, get_or, arith, sym, subst, ap, ◌∙◌}
+use Rattle.std.proofs.Common.{◌≤◌, get_or, sym, subst}
 use Rattle.std.specs.List.{All}
 use Rattle.cil_body.proofs.Chain.{linked, begun, chain_step, many_more, no_span}
 use Rattle.cil_body.specs.Laid.{AreLinked}

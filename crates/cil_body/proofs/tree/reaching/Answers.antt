@@ -1,4 +1,4 @@
-use Rattle.std.proofs.Common.{rules, arith}
+use Rattle.std.proofs.Common.{arith}
 use Rattle.cil_body.proofs.Chain.{climbs, no_node}
 use Rattle.cil_body.proofs.tree.reaching.Goals as goal
 
