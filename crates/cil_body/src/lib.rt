@@ -19,6 +19,8 @@ mod laws;
 mod nesting;
 mod opcode;
 mod region;
+#[cfg(test)]
+mod region_tests;
 mod rethrow;
 mod section;
 mod span;
