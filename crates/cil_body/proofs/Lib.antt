@@ -15,8 +15,8 @@ pub mod Nested
 pub mod Depth
 pub mod Crossing
 pub mod Loose
-pub mod Table
-pub mod First
+pub mod ParentTable
+pub mod FirstSharing
 pub mod Whole
 pub mod Partner
 pub mod Laminar

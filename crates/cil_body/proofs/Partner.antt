@@ -16,7 +16,7 @@ use Rattle.cil_body.specs.declared.region.Span.{Span}
 use Rattle.cil_body.specs.Region.{HasRanges, HasClause, first_of, try_of, handler_of, handler_kind, spans_of, is_try, AreLaminar, IsParent, ShareParent, IsLooseAt, IsLeast}
 use Rattle.cil_body.specs.Laid.{AreFirsts, AreOrdered, AreChained, AreParents, AgreeAt, DisagreeAt, IsLeastDisagreement}
 use Rattle.cil_body.proofs.Chain.{no_node}
-use Rattle.cil_body.proofs.First.{first_is}
+use Rattle.cil_body.proofs.FirstSharing.{first_is}
 use Rattle.cil_body.proofs.Nested.{parent_is, one_parent}
 use Rattle.cil_body.proofs.Spans.{try_among, handler_among}
 use Rattle.cil_body.proofs.Whole.{are_laid}

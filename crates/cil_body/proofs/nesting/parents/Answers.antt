@@ -4,7 +4,7 @@ use Rattle.std.specs.Cmp.{booleans_Decides}
 use mathlib.Core.Bool.{beq}
 use Rattle.cil_body.specs.Region.{is_try}
 use Rattle.cil_body.proofs.Chain.{no_span, no_node}
-use Rattle.cil_body.proofs.Table.{AreParentsUpto, parents_all, parents_kept, parents_more}
+use Rattle.cil_body.proofs.ParentTable.{AreParentsUpto, parents_all, parents_kept, parents_more}
 use Rattle.cil_body.proofs.nesting.parents.Goals as goal
 use Rattle.cil_body.proofs.nesting.parents.Goals.{then-is_try-tries+then-first-len, else-is_try-tries, else-is_try-tries-via-then-is_try-tries+else-first-len, else-is_try-tries-via-else-is_try-tries}
 

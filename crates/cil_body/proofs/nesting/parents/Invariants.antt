@@ -1,4 +1,4 @@
-use Rattle.cil_body.proofs.Table.{AreParentsUpto}
+use Rattle.cil_body.proofs.ParentTable.{AreParentsUpto}
 use Rattle.cil_body.proofs.nesting.parents.Given as goal
 
 abbrev pub invariant-loop-k : goal.invariant-loop-k

@@ -1,5 +1,5 @@
 use Rattle.std.proofs.Common.{arith}
-use Rattle.cil_body.proofs.First.{firsts_more, firsts_all}
+use Rattle.cil_body.proofs.FirstSharing.{firsts_more, firsts_all}
 use Rattle.cil_body.proofs.Loose.{no_clause}
 use Rattle.cil_body.proofs.span.firsts.Goals as goal
 

@@ -1,4 +1,4 @@
-use Rattle.cil_body.proofs.First.{AreFirstsUpto}
+use Rattle.cil_body.proofs.FirstSharing.{AreFirstsUpto}
 use Rattle.cil_body.proofs.span.firsts.Given as goal
 
 abbrev pub invariant-loop-i : goal.invariant-loop-i
