@@ -8,6 +8,7 @@ pub mod Code
 pub mod Section
 pub mod Body
 pub mod Region
+pub mod Laid
 pub mod Cut
 pub mod Lone
 pub mod Laws

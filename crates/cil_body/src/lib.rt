@@ -16,12 +16,16 @@ mod fault;
 mod header;
 mod instruction;
 mod laws;
+mod nesting;
 mod opcode;
 mod region;
+mod rethrow;
 mod section;
+mod span;
 mod standalone;
 #[cfg(test)]
 mod tests;
+mod tree;
 
 pub use body::{Body, Clause, ClauseKind, Instr, decode};
 pub use fault::{BodyCause, BodyFault};

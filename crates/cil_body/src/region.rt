@@ -1,9 +1,14 @@
 // The regions of a body's code.
 
 ghost use Rattle.std.specs.Prelude.{◌≡◌, ◌≤◌, ◌^◌, length, IfOk, IfErr};
-ghost use Rattle.cil_body.specs.Region.{HasRanges, IsRegionTree, IsRegionsRefused};
+ghost use Rattle.cil_body.specs.Region.{HasRanges, IsNested, IsRegionTree, IsRegionsRefused};
+ghost use Rattle.cil_body.specs.Laid.{IsTree};
 
 use crate::body::Body;
+use crate::nesting::{crossing, loose};
+use crate::rethrow::misplaced;
+use crate::span::{firsts, ordered};
+use crate::tree::{nodes, too_deep};
 use dc_base::{Or, Seq, Token};
 use std::alloc::Global;
 
@@ -60,8 +65,38 @@ pub fn regions(alloc: Global, body: &Body) -> Result<RegionTree, Or<RegionFault>
     ensures tree { IfOk result (IsRegionTree body.now) }
     ensures fault { IfErr result (IsRegionsRefused body.now) }
 {
-    let nodes = Vec::new(alloc);
+    let nodes = nested(alloc, body)?;
+    if let Some(place) = misplaced(body.code.items(), nodes.as_slice()) {
+        return Err(Or::Fault(RegionFault::RethrowPlace(place)));
+    }
+    if let Some(place) = too_deep(alloc, nodes.as_slice())? {
+        return Err(Or::Fault(RegionFault::TooDeep(place)));
+    }
     Ok(RegionTree {
         nodes: Seq::of(nodes),
     })
+}
+
+// The regions of a body that lie in one another as they have to.
+fn nested(alloc: Global, body: &Body) -> Result<Vec<Region>, Or<RegionFault>>
+    requires { HasRanges body.now }
+    ensures nested { IfOk result (λ nodes. IsNested body.now × IsTree body.now nodes.items) }
+    ensures fault { IfErr result (IsRegionsRefused body.now) }
+{
+    let firsts = firsts(alloc, body.clauses.items())?;
+    let spans = ordered(alloc, body, firsts.as_slice())?;
+    if let Some(place) = crossing(spans.as_slice()) {
+        return Err(Or::Fault(RegionFault::Nest(place)));
+    }
+    let nodes = nodes(alloc, spans.as_slice())?;
+    if let Some(place) = loose(
+        alloc,
+        body,
+        firsts.as_slice(),
+        spans.as_slice(),
+        nodes.as_slice(),
+    )? {
+        return Err(Or::Fault(RegionFault::Nest(place)));
+    }
+    Ok(nodes)
 }
