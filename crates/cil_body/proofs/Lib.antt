@@ -41,3 +41,4 @@ pub mod Deep
 pub mod Caught
 pub mod Depths
 pub mod Made
+pub mod FirstTry

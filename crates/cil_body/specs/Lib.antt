@@ -9,6 +9,7 @@ pub mod Section
 pub mod Body
 pub mod Region
 pub mod Laid
+pub mod Tries
 pub mod Cut
 pub mod Lone
 pub mod Laws

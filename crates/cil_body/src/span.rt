@@ -1,46 +1,49 @@
 // The ranges that a body's clauses speak of, in the order of its tree.
 
-ghost use Rattle.std.specs.Prelude.{◌≡◌, ◌+◌, ◌^◌, ◌<◌, ◌≤◌, ◌++◌, length, IfOk, OnOk};
+ghost use Rattle.std.specs.Prelude.{◌≡◌, ℕ, ◌+◌, ◌^◌, ◌<◌, ◌≤◌, ◌++◌, length, IfOk, OnOk};
 ghost use Rattle.cil_body.specs.Region.{HasRanges, is_catch, is_try, shares_try, first_of, handler_kind, IsRange, spans_of};
 ghost use Rattle.cil_body.specs.Laid.{AreFirsts, AreOrdered, begun};
+ghost use Rattle.cil_body.specs.Tries.{found_at, first_by, found_behind};
 
 use crate::body::{Body, Clause, ClauseKind};
 use crate::region::{RegionKind, Span};
 use dc_base::NoMemory;
 use std::alloc::Global;
 use std::cmp::Reverse;
+use std::collections::BTreeMap;
 
 /// For each clause the number of the first one that has the same try.
 pub fn firsts(alloc: Global, clauses: &[Clause]) -> Result<Vec<u32>, NoMemory>
     requires { length clauses.now < 2 ^ 30 }
     ensures { IfOk result (λ firsts. AreFirsts clauses.now firsts.items) }
 {
+    let mut tries = BTreeMap::new(alloc);
     let mut firsts = Vec::new(alloc);
     for (i, clause) in clauses.iter().enumerate() {
-        firsts.push(first_of(clauses, i, *clause) as u32)?;
+        firsts.push(first_of(&mut tries, *clause, i as u32)?)?;
     }
     Ok(firsts)
 }
 
-// The number of the first clause that has the same try as the clause of number i.
-fn first_of(clauses: &[Clause], i: usize, clause: Clause) -> usize
-    requires { i < length clauses.now }
-    ensures { result ≡ first_of clauses.now i clause }
-{
-    clauses
-        .iter()
-        .position(|other| shares_try(clause, *other))
-        .unwrap_or(i)
-}
+// The number of the first clause that has the same try, where the ranges of the catches before this one are known.
+fn first_of(
+    tries: &mut BTreeMap<(u32, u32), u32>,
+    clause: Clause,
+    number: u32,
+) -> Result<u32, NoMemory>
+    ensures first { IfOk result (λ first. first ≡ first_by tries.old clause number) }
+    ensures tries { OnOk result ((q : ℕ × ℕ) → found_at tries.new q ≡ found_behind tries.old clause number q) }
 
-// Whether two clauses have one try: they are catches over one range.
-fn shares_try(clause: Clause, other: Clause) -> bool
-    ensures { result ≡ shares_try clause other }
 {
-    is_catch(clause.kind)
-        && is_catch(other.kind)
-        && clause.try_at == other.try_at
-        && clause.try_len == other.try_len
+    if !is_catch(clause.kind) {
+        return Ok(number);
+    }
+    let range = (clause.try_at, clause.try_len);
+    if let Some(first) = tries.get(&range) {
+        return Ok(*first);
+    }
+    tries.insert(range, number)?;
+    Ok(number)
 }
 
 fn is_catch(kind: ClauseKind) -> bool
