@@ -1,5 +1,5 @@
 -- Bytes begin with one body, or have one fault.
-use Rattle.std.proofs.Common.{◌≡◌, ◌⊎◌, ℕ, zero, suc, ◌+◌, ◌-◌, ◌<◌, ◌≤◌, Bool, true, false, List, [], ◌++◌, length, map, All, refl, sym, ◌∙◌, ap, subst, inl, inr, arith, MatchBool}
+use Rattle.std.proofs.Common.{◌≡◌, ℕ, zero, suc, ◌+◌, ◌-◌, ◌<◌, ◌≤◌, Bool, true, false, List, [], All, refl, sym, ◌∙◌, ap, subst, inl, inr, arith, MatchBool}
 use Rattle.std.proofs.lemmas.Bool.{cases_order}
 use Rattle.cil_body.specs.declared.header.Header.{Header}
 use Rattle.cil_body.specs.declared.section.Section.{Section}
@@ -10,7 +10,7 @@ use Rattle.cil_body.specs.declared.fault.BodyCause.{BodyCause}
 use Rattle.cil_body.specs.declared.fault.BodyCause.TheVariants.{BadHeader, TooLong, Truncated, BadOpcode, OutOfProfile, BadTarget, BadSection, OutOfProfileClause}
 use Rattle.cil_body.specs.First.{IsFirstOff}
 use Rattle.cil_body.specs.Header.{IsHeader, IsBadHeader}
-use Rattle.cil_body.specs.Code.{Placed, IsWhole, IsCode, IsStop, IsAimed, code_of, starts_of}
+use Rattle.cil_body.specs.Code.{Placed, IsWhole, IsCode, IsAimed, code_of, starts_of}
 use Rattle.cil_body.specs.Section.{HasSections, AreSections, all_clauses, sections_place, IsClause, IsTaken, IsBadSection}
 use Rattle.cil_body.specs.Body.{IsAimedCode, HasClauses, body_of, IsBody, IsTooLong, IsShort, StopsAt, IsBadTarget, HasBadSection, IsLeftOutClause, IsWrong, IsBodyFault}
 use Rattle.cil_body.proofs.First.{not_off, one_first}

@@ -4,7 +4,7 @@ use Rattle.cil_body.specs.declared.instruction.Found.{Found}
 use Rattle.cil_body.specs.declared.header.Header.{Header}
 use Rattle.cil_body.specs.declared.fault.BodyCause.{BodyCause}
 use Rattle.cil_body.specs.Instruction.{instruction_at}
-use Rattle.cil_body.specs.Code.{Placed, Reads, code_of, IsWhole, IsCode, IsStop}
+use Rattle.cil_body.specs.Code.{Placed, Reads, code_of, IsCode, IsStop}
 use Rattle.cil_body.proofs.OneHeader.{one_header}
 
 -- no instruction stands at these bytes

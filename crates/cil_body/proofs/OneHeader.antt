@@ -1,5 +1,5 @@
 -- Bytes begin with one header, or with none in one way.
-use Rattle.std.proofs.Common.{◌≡◌, ◌⊎◌, ℕ, ◌<◌, ◌≤◌, List, length, refl, sym, ◌∙◌, ap, subst, inl, inr, arith}
+use Rattle.std.proofs.Common.{◌≡◌, ℕ, ◌<◌, List, length, sym, ◌∙◌, inl, inr, arith}
 use Rattle.cil_body.specs.declared.header.Header.{Header}
 use Rattle.cil_body.specs.Header.{IsTiny, IsFat, IsHeader, IsCutField, IsBadHeader}
 

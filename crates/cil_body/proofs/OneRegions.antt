@@ -1,13 +1,12 @@
 -- The regions of a body make a tree, or have one fault.
-use Rattle.std.proofs.Common.{◌≡◌, ◌⊎◌, ℕ, ◌<◌, List, All, refl, sym, ◌∙◌, ap, inl, inr}
+use Rattle.std.proofs.Common.{◌≡◌, ℕ, All, sym, ◌∙◌, ap, inl, inr}
 use Rattle.std.proofs.lemmas.Bool.{cases_order}
 use Rattle.cil_body.specs.declared.body.Body.{Body}
 use Rattle.cil_body.specs.declared.body.Instr.{Instr}
 use Rattle.cil_body.specs.declared.region.RegionTree.{RegionTree}
 use Rattle.cil_body.specs.declared.region.RegionFault.{RegionFault}
 use Rattle.cil_body.specs.declared.region.RegionFault.TheVariants.{Nest, RethrowPlace, TooDeep}
-use Rattle.cil_body.specs.First.{IsFirstOff}
-use Rattle.cil_body.specs.Region.{spans_of, CrossesAt, IsLooseAt, IsLeast, IsLaminar, IsNested, IsBadNest, IsRethrowFine, IsBadRethrow, IsDeepAt, IsRegionTree, IsRegionFault}
+use Rattle.cil_body.specs.Region.{spans_of, CrossesAt, IsLooseAt, IsLeast, IsNested, IsBadNest, IsRethrowFine, IsBadRethrow, IsDeepAt, IsRegionTree, IsRegionFault}
 use Rattle.cil_body.proofs.First.{not_off, one_first}
 
 one_least : (P : ℕ → Type 0) (p q : ℕ) → IsLeast P p → IsLeast P q → p ≡ q

@@ -1,5 +1,5 @@
 -- The clauses of a body are ranges of its code, and few.
-use Rattle.std.proofs.Common.{◌≡◌, ◌⊎◌, ℕ, zero, suc, ◌+◌, ◌-◌, ◌*◌, ◌/◌, ◌^◌, ◌<◌, ◌≤◌, Bool, true, false, cond, List, [], ◌∷◌, ◌++◌, length, map, get_or, All, Contains, MatchBool, refl, sym, ◌∙◌, ap, subst, inl, inr, arith, length-append}
+use Rattle.std.proofs.Common.{◌≡◌, ℕ, zero, suc, ◌+◌, ◌-◌, ◌*◌, ◌/◌, ◌^◌, ◌<◌, ◌≤◌, Bool, true, false, List, [], ◌∷◌, ◌++◌, length, map, get_or, All, MatchBool, refl, sym, ◌∙◌, ap, subst, inl, inr, arith, length-append}
 use Rattle.std.proofs.lemmas.List.{length-map}
 use Rattle.std.proofs.lemmas.List.Elements.{All-map, All-weaker, All-contains}
 use Rattle.std.proofs.lemmas.List.Concat.{flat_map-append}
@@ -7,10 +7,9 @@ use Rattle.cil_body.specs.declared.header.Header.{Header}
 use Rattle.cil_body.specs.declared.section.Section.{Section}
 use Rattle.cil_body.specs.declared.section.RawClause.{RawClause}
 use Rattle.cil_body.specs.declared.body.Body.{Body}
-use Rattle.cil_body.specs.declared.body.Clause.{Clause}
 use Rattle.cil_body.specs.Code.{Placed, Reads, starts_of}
-use Rattle.cil_body.specs.Section.{clause_width, clauses_from, clauses_of, all_clauses, IsSection, Chained, AreSections, HasSections, sections_place, IsBound, IsClause}
-use Rattle.cil_body.specs.Body.{clause_of, IsBody, HasClauses}
+use Rattle.cil_body.specs.Section.{clause_width, clauses_from, clauses_of, all_clauses, Chained, AreSections, sections_place, IsBound, IsClause}
+use Rattle.cil_body.specs.Body.{clause_of, IsBody}
 use Rattle.cil_body.specs.Region.{IsRange, HasRanges}
 
 -- each place of the code is before its end

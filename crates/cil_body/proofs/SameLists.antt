@@ -1,5 +1,5 @@
 -- Two lists in a strict order with the same elements are one list.
-use Rattle.std.proofs.Common.{◌≡◌, ◌⊎◌, ℕ, zero, suc, ◌+◌, ◌<◌, List, [], ◌∷◌, length, get_or, AllPairs, Contains, refl, sym, ◌∙◌, ap, subst, inl, inr, arith}
+use Rattle.std.proofs.Common.{◌≡◌, ◌⊎◌, ℕ, zero, suc, ◌<◌, List, [], ◌∷◌, length, get_or, AllPairs, Contains, refl, sym, ◌∙◌, ap, subst, inl, inr, arith}
 
 -- an order in which nothing comes both before and after
 abbrev pub IsStrict : {X : Type 0} → (X → X → Type 0) → Type 0

@@ -7,7 +7,7 @@ use Rattle.std.proofs.lemmas.List.Elements.{All-contains}
 use Rattle.std.proofs.lemmas.List.Sums.{AllPass-from_list_all}
 use Rattle.cil_body.specs.declared.opcode.Op.TheVariants.{Nop, Ldarg0, Ldarg1, Ldarg2, Ldarg3, Ldloc0, Ldloc1, Ldloc2, Ldloc3, Stloc0, Stloc1, Stloc2, Stloc3, LdargS, LdargaS, StargS, LdlocS, LdlocaS, StlocS, Ldnull, LdcI4M1, LdcI40, LdcI41, LdcI42, LdcI43, LdcI44, LdcI45, LdcI46, LdcI47, LdcI48, LdcI4S, LdcI4, LdcI8, Dup, Pop, Call, Ret, BrS, BrfalseS, BrtrueS, BeqS, BgeS, BgtS, BleS, BltS, BneUnS, BgeUnS, BgtUnS, BleUnS, BltUnS, Br, Brfalse, Brtrue, Beq, Bge, Bgt, Ble, Blt, BneUn, BgeUn, BgtUn, BleUn, BltUn, Switch, LdindI1, LdindU1, LdindI2, LdindU2, LdindI4, LdindU4, LdindI8, LdindRef, StindRef, StindI1, StindI2, StindI4, StindI8, Add, Sub, Mul, Div, DivUn, Rem, RemUn, And, Or, Xor, Shl, Shr, ShrUn, Neg, Not, ConvI1, ConvI2, ConvI4, ConvI8, ConvU4, ConvU8, Callvirt, Ldobj, Ldstr, Newobj, Castclass, Isinst, Unbox, Throw, Ldfld, Ldflda, Stfld, Ldsfld, Ldsflda, Stsfld, ConvOvfI1Un, ConvOvfI2Un, ConvOvfI4Un, ConvOvfI8Un, ConvOvfU1Un, ConvOvfU2Un, ConvOvfU4Un, ConvOvfU8Un, Box, Newarr, Ldlen, Ldelema, LdelemI1, LdelemU1, LdelemI2, LdelemU2, LdelemI4, LdelemU4, LdelemI8, LdelemRef, StelemI1, StelemI2, StelemI4, StelemI8, StelemRef, Ldelem, Stelem, UnboxAny, ConvOvfI1, ConvOvfU1, ConvOvfI2, ConvOvfU2, ConvOvfI4, ConvOvfU4, ConvOvfI8, ConvOvfU8, ConvU2, ConvU1, AddOvf, AddOvfUn, MulOvf, MulOvfUn, SubOvf, SubOvfUn, Endfinally, Leave, LeaveS, Ceq, Cgt, CgtUn, Clt, CltUn, Ldftn, Ldvirtftn, Ldarg, Ldarga, Starg, Ldloc, Ldloca, Stloc, Rethrow}
 use Rattle.cil_body.specs.declared.opcode.Operand.{Operand}
-use Rattle.cil_body.specs.declared.opcode.Operand.TheVariants.{Absent, Int32, Int64, Int8, Switch, Target32, Target8, Token, Var16, Var8}
+use Rattle.cil_body.specs.declared.opcode.Operand.TheVariants.{Absent, Int32, Int8, Switch}
 use Rattle.cil_body.specs.declared.opcode.Row.{Row}
 use Rattle.cil_body.specs.declared.opcode.Row.TheVariants.{Beyond}
 use Rattle.cil_body.specs.declared.opcode.TheConstants.{TABLE, LEFT_OUT}

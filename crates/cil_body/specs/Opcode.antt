@@ -1,5 +1,5 @@
 -- The instructions: their opcodes and operands, and what those of a lone body do.
-use Rattle.std.specs.Prelude.{◌≡◌, ℕ, Bool, Option, Some, None, ◌==◌, pos, negsuc, find, Contains}
+use Rattle.std.specs.Prelude.{ℕ, Bool, Option, ◌==◌, pos, negsuc, find}
 use Rattle.std.specs.List.{list_any}
 use Rattle.cil_body.specs.declared.opcode.Op.{Op}
 use Rattle.cil_body.specs.declared.opcode.Op.TheVariants.{Ldarg0, Ldarg1, Ldarg2, Ldarg3, LdcI4M1, LdcI40, LdcI41, LdcI42, LdcI43, LdcI44, LdcI45, LdcI46, LdcI47, LdcI48, LdcI4S, LdcI4, Add as AddOp, Sub as SubOp, Mul as MulOp, Ret}

@@ -1,5 +1,5 @@
 -- The tries of the catches that were looked at so far, each range with the number of its first clause.
-use Rattle.std.specs.Prelude.{ℕ, Bool, ◌&&◌, ◌==◌, Option, None, Some, unwrap_or, is_some, not, if◌then◌else◌}
+use Rattle.std.specs.Prelude.{ℕ, Bool, ◌&&◌, ◌==◌, Option, Some, unwrap_or, is_some, not, if◌then◌else◌}
 use Rattle.std.specs.Ordering.{nat_cmp, ordering_then}
 use Rattle.std.specs.BTreeMap.{BTreeMap, get}
 use Rattle.cil_body.specs.declared.body.Clause.{Clause}

@@ -33,7 +33,6 @@ fn first_of(
 ) -> Result<u32, NoMemory>
     ensures first { IfOk result (λ first. first ≡ first_by tries.old clause number) }
     ensures tries { OnOk result ((q : ℕ × ℕ) → found_at tries.new q ≡ found_behind tries.old clause number q) }
-
 {
     if !is_catch(clause.kind) {
         return Ok(number);

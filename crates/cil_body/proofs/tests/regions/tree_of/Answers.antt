@@ -1,4 +1,4 @@
-use Rattle.std.proofs.Common.{rules, ◌≤◌, ◌^◌, length, arith}
+use Rattle.std.proofs.Common.{◌≤◌, ◌^◌, length, arith}
 use Rattle.cil_body.specs.Body.{IsBody}
 use Rattle.cil_body.proofs.Ranges.{ranges_of}
 use Rattle.cil_body.proofs.tests.regions.tree_of.Goals as goal
