@@ -239,6 +239,38 @@ fn each_instruction_is_read_with_its_operand(rt: HostRuntime) -> Result<(), Fail
     Ok(())
 }
 
+// The branches, which have one aim each.
+const BRANCHES: [Op; 28] = [
+    Op::BrS,
+    Op::BrfalseS,
+    Op::BrtrueS,
+    Op::BeqS,
+    Op::BgeS,
+    Op::BgtS,
+    Op::BleS,
+    Op::BltS,
+    Op::BneUnS,
+    Op::BgeUnS,
+    Op::BgtUnS,
+    Op::BleUnS,
+    Op::BltUnS,
+    Op::LeaveS,
+    Op::Br,
+    Op::Brfalse,
+    Op::Brtrue,
+    Op::Beq,
+    Op::Bge,
+    Op::Bgt,
+    Op::Ble,
+    Op::Blt,
+    Op::BneUn,
+    Op::BgeUn,
+    Op::BgtUn,
+    Op::BleUn,
+    Op::BltUn,
+    Op::Leave,
+];
+
 // The number that the source gives an instruction, if it is one, and how many aims.
 fn operand_of(op: Op) -> (Option<i64>, usize) {
     match op {
@@ -251,34 +283,7 @@ fn operand_of(op: Op) -> (Option<i64>, usize) {
         Op::LdcI4 => (Some(-3), 0),
         Op::LdcI8 => (Some(-4), 0),
         Op::Switch => (Some(2), 2),
-        Op::BrS
-        | Op::BrfalseS
-        | Op::BrtrueS
-        | Op::BeqS
-        | Op::BgeS
-        | Op::BgtS
-        | Op::BleS
-        | Op::BltS
-        | Op::BneUnS
-        | Op::BgeUnS
-        | Op::BgtUnS
-        | Op::BleUnS
-        | Op::BltUnS
-        | Op::LeaveS => (Some(0), 1),
-        Op::Br
-        | Op::Brfalse
-        | Op::Brtrue
-        | Op::Beq
-        | Op::Bge
-        | Op::Bgt
-        | Op::Ble
-        | Op::Blt
-        | Op::BneUn
-        | Op::BgeUn
-        | Op::BgtUn
-        | Op::BleUn
-        | Op::BltUn
-        | Op::Leave => (None, 1),
+        _ if BRANCHES.contains(&op) => (None, 1),
         _ => (None, 0),
     }
 }
@@ -332,96 +337,49 @@ fn is_refused(bytes: &[u8], code: u16, is_left_out: bool) -> bool
 #[test]
 fn a_body_that_has_no_reading_has_its_fault(rt: HostRuntime) {
     let header = BodyCause::BadHeader;
-    refuses(&rt, rt.alloc(), &[], header, 0);
-    refuses(&rt, rt.alloc(), &[0x04], header, 0);
-    refuses(&rt, rt.alloc(), &[0x13], header, 0);
-    refuses(&rt, rt.alloc(), &[0x13, 0x20, 0x08, 0x00], header, 0);
-    refuses(&rt, rt.alloc(), &[0x13, 0x30, 0x08], header, 2);
-    refuses(
-        &rt,
-        rt.alloc(),
-        &[0x13, 0x30, 0x08, 0x00, 0x01, 0x00, 0x00],
-        header,
-        4,
-    );
-    refuses(
-        &rt,
-        rt.alloc(),
-        &[0x13, 0x30, 0x08, 0x00, 0x01, 0x00, 0x00, 0x00, 0x00],
-        header,
-        8,
-    );
-    refuses(
-        &rt,
-        rt.alloc(),
-        &[0x0E, 0x00, 0x2A],
-        BodyCause::Truncated,
-        3,
-    );
-    refuses(
-        &rt,
-        rt.alloc(),
-        &[0x0E, 0x00, 0x20, 0x2A, 0x00, 0x00, 0x00],
-        BodyCause::Truncated,
-        2,
-    );
-    refuses(
-        &rt,
-        rt.alloc(),
-        &[0x06, 0xFE, 0x01],
-        BodyCause::Truncated,
-        1,
-    );
-    refuses(
-        &rt,
-        rt.alloc(),
-        &[0x06, 0xFF],
-        BodyCause::BadOpcode(0xFF),
-        1,
-    );
-    refuses(
-        &rt,
-        rt.alloc(),
-        &[0x0A, 0xFE, 0x08],
-        BodyCause::BadOpcode(0xFE08),
-        1,
-    );
-    refuses(
-        &rt,
-        rt.alloc(),
-        &[0x0A, 0x01, 0x2A],
-        BodyCause::OutOfProfile(0x01),
-        1,
-    );
-    // A switch speaks of more cases than there can be.
-    refuses(
-        &rt,
-        rt.alloc(),
-        &[0x1A, 0x00, 0x45, 0xFF, 0xFF, 0xFF, 0xFF],
-        BodyCause::Truncated,
-        2,
-    );
+    let cut = BodyCause::Truncated;
+    let table: [(&[u8], BodyCause, u32); 14] = [
+        (&[], header, 0),
+        (&[0x04], header, 0),
+        (&[0x13], header, 0),
+        (&[0x13, 0x20, 0x08, 0x00], header, 0),
+        (&[0x13, 0x30, 0x08], header, 2),
+        (&[0x13, 0x30, 0x08, 0x00, 0x01, 0x00, 0x00], header, 4),
+        (
+            &[0x13, 0x30, 0x08, 0x00, 0x01, 0x00, 0x00, 0x00, 0x00],
+            header,
+            8,
+        ),
+        (&[0x0E, 0x00, 0x2A], cut, 3),
+        (&[0x0E, 0x00, 0x20, 0x2A, 0x00, 0x00, 0x00], cut, 2),
+        (&[0x06, 0xFE, 0x01], cut, 1),
+        // A switch speaks of more cases than there can be.
+        (&[0x1A, 0x00, 0x45, 0xFF, 0xFF, 0xFF, 0xFF], cut, 2),
+        (&[0x06, 0xFF], BodyCause::BadOpcode(0xFF), 1),
+        (&[0x0A, 0xFE, 0x08], BodyCause::BadOpcode(0xFE08), 1),
+        (&[0x0A, 0x01, 0x2A], BodyCause::OutOfProfile(0x01), 1),
+    ];
+    for (file, cause, at) in table {
+        assert!(rt; file.len() <= 64);
+        refuses(&rt, rt.alloc(), file, cause, at);
+    }
 }
 
 #[test]
 fn an_aim_starts_an_instruction(rt: HostRuntime) {
-    let target = BodyCause::BadTarget;
-    // To the code's end, into an instruction, before the code, and far behind it.
-    refuses(&rt, rt.alloc(), &[0x0A, 0x2B, 0x00], target, 1);
-    refuses(&rt, rt.alloc(), &[0x12, 0x2B, 0x01, 0x1F, 0x05], target, 1);
-    refuses(&rt, rt.alloc(), &[0x0E, 0x00, 0x2B, 0xFC], target, 2);
-    refuses(
-        &rt,
-        rt.alloc(),
-        &[0x1A, 0x2A, 0x38, 0xFF, 0xFF, 0xFF, 0x7F],
-        target,
-        2,
-    );
-    // The second case of a switch.
-    let switch = [
-        0x3A, 0x45, 0x02, 0x00, 0x00, 0x00, 0x00, 0x00, 0x00, 0x00, 0x01, 0x00, 0x00, 0x00, 0x2A,
+    let table: [(&[u8], u32); 5] = [
+        // To the code's end, into an instruction, before the code, and far behind it.
+        (&[0x0A, 0x2B, 0x00], 1),
+        (&[0x12, 0x2B, 0x01, 0x1F, 0x05], 1),
+        (&[0x0E, 0x00, 0x2B, 0xFC], 2),
+        (&[0x1A, 0x2A, 0x38, 0xFF, 0xFF, 0xFF, 0x7F], 2),
+        // The second case of a switch.
+        (&[0x3A, 0x45, 2, 0, 0, 0, 0, 0, 0, 0, 1, 0, 0, 0, 0x2A], 1),
     ];
-    refuses(&rt, rt.alloc(), &switch, target, 1);
+    for (file, at) in table {
+        assert!(rt; file.len() <= 64);
+        refuses(&rt, rt.alloc(), file, BodyCause::BadTarget, at);
+    }
 }
 
 #[test]
