@@ -1,8 +1,9 @@
 // Whether regions lie in one another as they have to.
 
 ghost use Rattle.std.specs.Prelude.{◌≡◌, ℕ, ◌<◌, ◌≤◌, min, length, slice_index, All, AllPairs, Any, IfOk, MatchBool, MatchOption};
+ghost use Rattle.std.specs.Bool.{OnTrue};
 ghost use Rattle.cil_body.specs.Region.{HasRanges, AreLaminar, ComesBefore, CrossesAt, IsLeast, IsLooseAt};
-ghost use Rattle.cil_body.specs.Laid.{AreRising, AreFirsts, AreOrdered, AreLaid, AreChained, AreParents, AgreeAt, IsLeastDisagreement, Crosses, DifferInName};
+ghost use Rattle.cil_body.specs.Laid.{AreRising, AreFirsts, AreOrdered, AreLaid, AreChained, AreParents, AgreeAt, IsLeastDisagreement, Crosses, IsRepeated, DifferInName};
 
 use crate::body::{Body, Clause};
 use crate::region::{Region, Span};
@@ -16,11 +17,22 @@ pub fn crossing(spans: &[Span]) -> Option<u32>
     ensures { MatchOption result (AllPairs AreLaminar spans.now) (IsLeast (CrossesAt spans.now)) }
 {
     for (i, span) in spans.iter().enumerate() {
+        if repeats(spans, i) {
+            continue;
+        }
         if is_crossed(*span, &spans[i + 1..]) {
             return Some(span.from);
         }
     }
     None
+}
+
+// Whether a region has the range of the one before it, so that it crosses no other than that one does.
+fn repeats(spans: &[Span], i: usize) -> bool
+    requires { i < length spans.now }
+    ensures { OnTrue result (IsRepeated spans.now i) }
+{
+    i > 0 && spans[i - 1].from == spans[i].from && spans[i - 1].to == spans[i].to
 }
 
 // Whether one of the regions behind this one crosses it.
