@@ -4,3 +4,11 @@ pub mod Cells
 pub mod Whole
 pub mod Standard
 pub mod Ranges
+pub mod Steps
+pub mod Named
+pub mod Heads
+pub mod Inside
+pub mod Bits
+pub mod Counts
+pub mod Rows
+pub mod Stands

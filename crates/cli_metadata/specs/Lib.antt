@@ -7,3 +7,4 @@ pub mod Layout
 pub mod Metadata
 pub mod Standard
 pub mod Laws
+pub mod Standing
