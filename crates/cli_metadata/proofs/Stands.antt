@@ -7,10 +7,11 @@ use Rattle.cli_metadata.specs.declared.layout.Placed.{Placed}
 use Rattle.cli_metadata.specs.Root.{streams_of}
 use Rattle.cli_metadata.specs.Layout.{tables_of}
 use Rattle.cli_metadata.specs.Metadata.{Contents, up_to_tables, metadata_with}
-use Rattle.cli_metadata.specs.Standing.{IsStanding, ReadIsStanding, StandingIsRead}
+use Rattle.cli_metadata.specs.Standing.{AreTables, IsStanding, ReadIsStanding, StandingIsRead}
 use Rattle.cli_metadata.proofs.Places.{ok_is, bind_ok}
 use Rattle.cli_metadata.proofs.Whole.{contents, read-is}
 use Rattle.cli_metadata.proofs.Inside.{streams-stand, streams-read}
+use Rattle.cli_metadata.proofs.Standard.{tables_are}
 use Rattle.cli_metadata.proofs.Rows.{layout-stands, layout-read}
 
 -- what was read of the streams and of the tables
@@ -38,14 +39,15 @@ read-stands bytes m e =
       user_strings = refl;
       blobs = refl;
       stream = refl;
-      tables = layout-stands TABLES (up_to_tables bytes p.streams) p.streams.tables.from p.placed refl p.laid;
+      tables = subst (λ (t : List (List Column)). AreTables t (up_to_tables bytes p.streams) p.streams.tables.from p.placed) tables_are (layout-stands TABLES (up_to_tables bytes p.streams) p.streams.tables.from p.placed refl p.laid);
     } in
     subst (λ (x : Contents). IsStanding bytes x) p.made stands
 
 pub standing-read : StandingIsRead
 standing-read bytes m w =
     let s = streams-read bytes w.streams w.headed in
-    let t = layout-read TABLES m.stream w.streams.tables.from m.tables refl w.tables in
+    let laid_out : AreTables TABLES m.stream w.streams.tables.from m.tables = subst (λ (t : List (List Column)). AreTables t m.stream w.streams.tables.from m.tables) (sym tables_are) w.tables in
+    let t = layout-read TABLES m.stream w.streams.tables.from m.tables refl laid_out in
     let laid : tables_of TABLES (up_to_tables bytes w.streams) w.streams.tables.from ≡ Ok m.tables = ap (λ (b : List ℕ). tables_of TABLES b w.streams.tables.from) (sym w.stream) ∙ t in
     let read = read-is TABLES bytes w.streams m.tables s laid in
     let same : contents bytes w.streams m.tables ≡ m = rw (sym w.strings, sym w.user_strings, sym w.blobs, sym w.stream) refl in

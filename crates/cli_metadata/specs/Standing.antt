@@ -1,15 +1,16 @@
 -- Metadata in the standard's words: which numbers and names stand at which places of its bytes (ECMA-335 II.24.2.1,
 -- II.24.2.2, II.24.2.6). Nothing here reads, and no fact comes before another. Places count from the root's first byte.
 use Rattle.std.specs.Prelude.{◌≡◌, ◌≢◌, ◌≤◌, ◌<◌, ℕ, zero, suc, ◌+◌, ◌*◌, ◌/◌, ◌%◌, ◌^◌, List, [], ◌∷◌, ◌++◌, length, drop, Option, None, Some, Ok, IsTrue, All, slice_index, slice_index_or, map, codes}
+use Rattle.std.specs.List.{range_with_len}
 use Rattle.byteorder.specs.Endian.{little_number}
 use Rattle.cli_metadata.specs.declared.tables.Column.{Column}
-use Rattle.cli_metadata.specs.declared.tables.TheConstants.{TABLES}
 use Rattle.cli_metadata.specs.declared.root.Stream.{Stream}
 use Rattle.cli_metadata.specs.declared.root.Streams.{Streams}
 use Rattle.cli_metadata.specs.declared.layout.Placed.{Placed}
 use Rattle.cli_metadata.specs.Root.{Header, padded, IsWithin, AreWithin}
 use Rattle.cli_metadata.specs.Widths.{width_of}
 use Rattle.cli_metadata.specs.Layout.{is_table, ArePlaced}
+use Rattle.cli_metadata.specs.Standard.{standard_columns}
 use Rattle.cli_metadata.specs.Laws.{AreConsecutive}
 use Rattle.cli_metadata.specs.Metadata.{Contents, heap_of, up_to_tables, metadata_of}
 
@@ -124,6 +125,10 @@ pub record AreTables (tables : List (List Column)) (bytes : List ℕ) (at : ℕ)
 
 -- ---- metadata
 
+-- the tables with their columns, by number (II.22)
+abbrev pub tables_by_number : List (List Column)
+tables_by_number = map standard_columns (range_with_len 0 45)
+
 -- these bytes are metadata with these contents
 pub record IsStanding (bytes : List ℕ) (m : Contents) : Type 0 where
   pub streams : Streams
@@ -132,7 +137,7 @@ pub record IsStanding (bytes : List ℕ) (m : Contents) : Type 0 where
   pub user_strings : m.user_strings ≡ heap_of bytes streams.user_strings
   pub blobs : m.blobs ≡ heap_of bytes streams.blobs
   pub stream : m.stream ≡ up_to_tables bytes streams
-  pub tables : AreTables TABLES m.stream streams.tables.from m.tables
+  pub tables : AreTables tables_by_number m.stream streams.tables.from m.tables
 
 -- what is read of metadata is what stands in its bytes
 abbrev pub ReadIsStanding : Type 0
