@@ -10,12 +10,12 @@ use Rattle.cli_metadata.proofs.Steps.{number-goes, number-is}
 use Rattle.cli_metadata.proofs.Bits.{parity, bit-first, bit-half, below-none, below-half}
 
 -- one count, where the lowest bit says whether there is one
-record Counts (bytes : List ℕ) (valid at : ℕ) (x : ℕ × ℕ) : Type 0 where
-  there : valid % 2 ≡ 1 → IsNumber 4 bytes at x.0
-  missing : valid % 2 ≡ 0 → x.0 ≡ 0
-  end : x.1 ≡ at + 4 * (valid % 2)
+pub record Counts (bytes : List ℕ) (valid at : ℕ) (x : ℕ × ℕ) : Type 0 where
+  pub there : valid % 2 ≡ 1 → IsNumber 4 bytes at x.0
+  pub missing : valid % 2 ≡ 0 → x.0 ≡ 0
+  pub end : x.1 ≡ at + 4 * (valid % 2)
 
-count-stands : (valid : ℕ) (bytes : List ℕ) (at : ℕ) (x : ℕ × ℕ) → count_at valid bytes at ≡ Ok x → Counts bytes valid at x
+pub count-stands : (valid : ℕ) (bytes : List ℕ) (at : ℕ) (x : ℕ × ℕ) → count_at valid bytes at ≡ Ok x → Counts bytes valid at x
 count-stands valid bytes at x e = elim (parity valid) [
   | inl even ↦ (let none : Ok (0, at) ≡ Ok x = rw even at e in
       let made : Counts bytes valid at (0, at) = record { there = λ odd. absurd (omega arith); missing = λ w. refl; end = omega arith } in
@@ -26,7 +26,7 @@ count-stands valid bytes at x e = elim (parity valid) [
       subst (λ (y : ℕ × ℕ). Counts bytes valid at y) (ok_is (little_number 4 (drop at bytes), at + 4) x g.1) made)
 ]
 
-count-read : (valid : ℕ) (bytes : List ℕ) (at rows : ℕ) → Counts bytes valid at (rows, at + 4 * (valid % 2)) → count_at valid bytes at ≡ Ok (rows, at + 4 * (valid % 2))
+pub count-read : (valid : ℕ) (bytes : List ℕ) (at rows : ℕ) → Counts bytes valid at (rows, at + 4 * (valid % 2)) → count_at valid bytes at ≡ Ok (rows, at + 4 * (valid % 2))
 count-read valid bytes at rows w = elim (parity valid) [
   | inl even ↦ (let none : rows ≡ 0 = w.missing even in
       let same : at ≡ at + 4 * (valid % 2) = omega arith in

@@ -130,14 +130,14 @@ name-stands-by : (bytes : List ℕ) (at : ℕ) (name : List ℕ) (found : Option
 name-stands-by bytes at name None e f = absurd cc
 name-stands-by bytes at name (Some n) e f = named-by bytes at n name (zero-found (drop at bytes) 33 n e) f
 
-name-stands : (bytes : List ℕ) (at : ℕ) (name : List ℕ) → name_at bytes at ≡ Ok name → IsName bytes at name
+pub name-stands : (bytes : List ℕ) (at : ℕ) (name : List ℕ) → name_at bytes at ≡ Ok name → IsName bytes at name
 name-stands bytes at name e = name-stands-by bytes at name (position (λ b. b == 0) (take 33 (drop at bytes))) refl e
 
 take-front : (name others : List ℕ) → take (length name) (name ++ others) ≡ name
 take-front [] others = refl
 take-front (x ∷ name) others = ap (λ (ys : List ℕ). x ∷ ys) (take-front name others)
 
-name-read : (bytes : List ℕ) (at : ℕ) (name : List ℕ) → IsName bytes at name → name_at bytes at ≡ Ok name
+pub name-read : (bytes : List ℕ) (at : ℕ) (name : List ℕ) → IsName bytes at name → name_at bytes at ≡ Ok name
 name-read bytes at name w =
     let short = w.short in
     let found : position (λ b. b == 0) (take 33 (drop at bytes)) ≡ Some (length name)
@@ -149,7 +149,7 @@ name-read bytes at name w =
 
 -- ---- headers
 
-header-stands : (bytes : List ℕ) (at : ℕ) (h : Header) → header_at bytes at ≡ Ok h → (h.stream.place ≡ at) × IsHeader bytes h
+pub header-stands : (bytes : List ℕ) (at : ℕ) (h : Header) → header_at bytes at ≡ Ok h → (h.stream.place ≡ at) × IsHeader bytes h
 unfolding header_at
 header-stands bytes at h e =
     let a = number-goes BadRoot 4 bytes at _ h e in
@@ -159,7 +159,7 @@ header-stands bytes at h e =
     let stands : IsHeader bytes made = record { from = a.0; size = b.0; name = name-stands bytes (at + 8) c.0 c.1; next = refl } in
     subst (λ (x : Header). (x.stream.place ≡ at) × IsHeader bytes x) (ok_is made h c.2) (refl, stands)
 
-header-read : (bytes : List ℕ) (h : Header) → IsHeader bytes h → header_at bytes h.stream.place ≡ Ok h
+pub header-read : (bytes : List ℕ) (h : Header) → IsHeader bytes h → header_at bytes h.stream.place ≡ Ok h
 unfolding header_at
 header-read bytes h w =
     let place = h.stream.place in

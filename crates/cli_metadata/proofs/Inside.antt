@@ -34,7 +34,7 @@ within-read bytes (Some s) w =
     let past : ltb (length bytes) (s.from + s.size) ≡ false = le-ltb (length bytes) (s.from + s.size) w in
     rw past refl
 
-all-within-stands : (bytes : List ℕ) (found : Found) → first_past_end bytes found ≡ None → AreWithinAll (length bytes) found
+pub all-within-stands : (bytes : List ℕ) (found : Found) → first_past_end bytes found ≡ None → AreWithinAll (length bytes) found
 all-within-stands bytes found e =
     let t = past_end bytes found.tables in
     let s = past_end bytes found.strings in
@@ -79,7 +79,7 @@ unless-goes None end found (Some tables) s is e =
     let has : Has found made = record { tables = is; strings = refl; user_strings = refl; blobs = refl } in
     (refl, subst (λ (x : Streams). Has found x) (ok_is made s e) has)
 
-abbrev first_named : List Header → Found
+abbrev pub first_named : List Header → Found
 first_named headers = record {
   tables = named (codes "#~") headers;
   strings = named (codes "#Strings") headers;
@@ -96,7 +96,7 @@ within-of len found s h w = record {
   blobs = subst (λ (x : Option Stream). IsWithin len x) h.blobs w.blobs;
 }
 
-first-as : (name : List ℕ) (headers : List Header) (s : Option Stream) → named name headers ≡ s → IsFirstNamed name headers s
+pub first-as : (name : List ℕ) (headers : List Header) (s : Option Stream) → named name headers ≡ s → IsFirstNamed name headers s
 first-as name headers s e = subst (λ (x : Option Stream). IsFirstNamed name headers x) e (is-first name headers)
 
 pub streams-stand : (bytes : List ℕ) (s : Streams) → streams_of bytes ≡ Ok s → AreStreams bytes s

@@ -12,3 +12,9 @@ pub mod Bits
 pub mod Counts
 pub mod Rows
 pub mod Stands
+pub mod Fields
+pub mod Missing
+pub mod Passing
+pub mod Prefixes
+pub mod Cuts
+pub mod Fails

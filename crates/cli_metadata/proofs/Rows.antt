@@ -18,22 +18,22 @@ use Rattle.cli_metadata.proofs.Steps.{number-goes, behind-goes, holds-goes, hold
 use Rattle.cli_metadata.proofs.Bits.{known-stands, known-read}
 use Rattle.cli_metadata.proofs.Counts.{counts-stand, counts-read}
 
-abbrev widths_by_number : List Placed → List (List Width)
+abbrev pub widths_by_number : List Placed → List (List Width)
 widths_by_number placed = map (λ p. p.widths) placed
 
 -- ---- one table
 
-abbrev placed : List Width → ℕ → ℕ → Placed
+abbrev pub placed : List Width → ℕ → ℕ → Placed
 placed widths rows at = record { rows = rows; start = at; widths = widths }
 
-table-stands : (widths : List Width) (rows : ℕ) (bytes : List ℕ) (at : ℕ) (x : Placed × ℕ) → table_at widths rows bytes at ≡ Ok x
+pub table-stands : (widths : List Width) (rows : ℕ) (bytes : List ℕ) (at : ℕ) (x : Placed × ℕ) → table_at widths rows bytes at ≡ Ok x
     → (at + rows * row_width widths ≤ length bytes) × ((placed widths rows at, at + rows * row_width widths) ≡ x)
 unfolding table_at
 table-stands widths rows bytes at x e =
     let g = behind-goes Truncated (rows * row_width widths) bytes at _ x e in
     (g.0, ok_is (placed widths rows at, at + rows * row_width widths) x g.1)
 
-table-read : (widths : List Width) (rows : ℕ) (bytes : List ℕ) (at : ℕ) → at + rows * row_width widths ≤ length bytes
+pub table-read : (widths : List Width) (rows : ℕ) (bytes : List ℕ) (at : ℕ) → at + rows * row_width widths ≤ length bytes
     → table_at widths rows bytes at ≡ Ok (placed widths rows at, at + rows * row_width widths)
 unfolding table_at
 table-read widths rows bytes at w = let b = behind-is Truncated (rows * row_width widths) bytes at w in rw b refl
@@ -107,7 +107,7 @@ pub record Fields (tables : List (List Column)) (bytes : List ℕ) (at sizes val
   pub prefix : at + 24 ≤ length bytes
   pub known : are_tables valid tables ≡ true
 
-version-stands : (bytes : List ℕ) (at x : ℕ) → versioned_at bytes at ≡ Ok x → IsNumber 1 bytes (at + 4) 2 × IsNumber 1 bytes (at + 5) 0
+pub version-stands : (bytes : List ℕ) (at x : ℕ) → versioned_at bytes at ≡ Ok x → IsNumber 1 bytes (at + 4) 2 × IsNumber 1 bytes (at + 5) 0
 unfolding versioned_at
 version-stands bytes at x e =
     let a = number-goes BadHeader 4 bytes at _ x e in
@@ -117,7 +117,7 @@ version-stands bytes at x e =
     let minor : (little_number 1 (drop (at + 5) bytes) == 0) ≡ true = holds-true BadHeader (little_number 1 (drop (at + 5) bytes) == 0) (at + 5) x d.1 in
     (record { whole = b.0.whole; same = sym (eqb-true (little_number 1 (drop (at + 4) bytes)) 2 c.0) }, record { whole = d.0.whole; same = sym (eqb-true (little_number 1 (drop (at + 5) bytes)) 0 minor) })
 
-version-read : (bytes : List ℕ) (at : ℕ) → IsNumber 1 bytes (at + 4) 2 → IsNumber 1 bytes (at + 5) 0 → versioned_at bytes at ≡ Ok (at + 5)
+pub version-read : (bytes : List ℕ) (at : ℕ) → IsNumber 1 bytes (at + 4) 2 → IsNumber 1 bytes (at + 5) 0 → versioned_at bytes at ≡ Ok (at + 5)
 unfolding versioned_at
 version-read bytes at major minor =
     let whole = major.whole in
@@ -126,7 +126,7 @@ version-read bytes at major minor =
     let c = number-is BadHeader 1 bytes (at + 5) 0 minor in
     rw (a, b, c) refl
 
-fields-stand : (tables : List (List Column)) (bytes : List ℕ) (at : ℕ) (x : Prefix) → prefix_at tables bytes at ≡ Ok x → Fields tables bytes at x.sizes x.valid
+pub fields-stand : (tables : List (List Column)) (bytes : List ℕ) (at : ℕ) (x : Prefix) → prefix_at tables bytes at ≡ Ok x → Fields tables bytes at x.sizes x.valid
 unfolding prefix_at
 fields-stand tables bytes at x e =
     let v = bind_ok (versioned_at bytes at) _ x e in
@@ -141,7 +141,7 @@ fields-stand tables bytes at x e =
     let fields : Fields tables bytes at made.sizes made.valid = record { major = w.0; minor = w.1; heap_sizes = a.0; bits = c.0; prefix = omega arith; known = k.0 } in
     subst (λ (y : Prefix). Fields tables bytes at y.sizes y.valid) (ok_is made x k.1) fields
 
-fields-read : (tables : List (List Column)) (bytes : List ℕ) (at sizes valid : ℕ) → Fields tables bytes at sizes valid → prefix_at tables bytes at ≡ Ok (record { sizes = sizes; valid = valid })
+pub fields-read : (tables : List (List Column)) (bytes : List ℕ) (at sizes valid : ℕ) → Fields tables bytes at sizes valid → prefix_at tables bytes at ≡ Ok (record { sizes = sizes; valid = valid })
 unfolding prefix_at
 fields-read tables bytes at sizes valid w =
     let end = w.prefix in

@@ -8,3 +8,4 @@ pub mod Metadata
 pub mod Standard
 pub mod Laws
 pub mod Standing
+pub mod Wrong
