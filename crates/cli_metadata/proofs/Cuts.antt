@@ -37,8 +37,9 @@ pub record CountCut (n valid : ℕ) (bytes : List ℕ) (at place : ℕ) : Type 0
 count-fails : (valid : ℕ) (bytes : List ℕ) (at : ℕ) (f : MetaFault) → count_at valid bytes at ≡ Err f → (valid % 2 ≡ 1) × (length bytes < at + 4) × (fault Truncated at ≡ f)
 count-fails valid bytes at f e = elim (parity valid) [
   | inl even ↦ (let none : (let o : Result (ℕ × ℕ) MetaFault = Ok (0, at) in o) ≡ Err f = rw even at e in absurd cc)
-  | inr odd ↦ (let one : (number_at Truncated 4 bytes at >>= λ n. Ok (n, at + 4)) ≡ Err f = rw odd at e in
-      elim (guard_fails (length bytes) (at + 4) (fault Truncated at) (little_number 4 (drop at bytes)) (λ n. Ok (n, at + 4)) f one) [
+  | inr odd ↦ (let on : ℕ → Result (ℕ × ℕ) MetaFault = λ n. Ok (n, at + 4) in
+      let one : (number_at Truncated 4 bytes at >>= on) ≡ Err f = rw odd at e in
+      elim (guard_fails (length bytes) (at + 4) (fault Truncated at) (little_number 4 (drop at bytes)) on f one) [
         | inl a ↦ (odd, a.0, a.1)
         | inr a ↦ (let z = a.1 in absurd cc)
       ])

@@ -40,7 +40,7 @@ pub record IsName (bytes : List ℕ) (place : ℕ) (name : List ℕ) : Type 0 wh
   pub short : length name ≤ 32
   pub whole : place + padded (length name) ≤ length bytes
 
--- a header: where the stream begins, its size, and its name
+-- a header: where the stream begins, its size, and its name; `next` is the place behind it
 pub record IsHeader (bytes : List ℕ) (h : Header) : Type 0 where
   pub from : IsNumber 4 bytes h.stream.place h.stream.from
   pub size : IsNumber 4 bytes (h.stream.place + 4) h.stream.size
@@ -67,7 +67,8 @@ abbrev pub IsFirstNamed : List ℕ → List Header → Option Stream → Type 0
 IsFirstNamed name headers None = All (λ h. h.name ≢ name) headers
 IsFirstNamed name headers (Some stream) = IsFirst name headers stream
 
--- the streams of metadata, each of which stands whole within it; there is one of tables
+-- The streams of metadata: as many headers stand as the root counts, and of each name that is read the first one's stream
+-- stands whole within the metadata; there is one of tables.
 pub record AreStreams (bytes : List ℕ) (streams : Streams) : Type 0 where
   pub count : ℕ
   pub at : ℕ
