@@ -4,3 +4,17 @@ pub mod Cells
 pub mod Whole
 pub mod Standard
 pub mod Ranges
+pub mod Steps
+pub mod Named
+pub mod Heads
+pub mod Inside
+pub mod Bits
+pub mod Counts
+pub mod Rows
+pub mod Stands
+pub mod Fields
+pub mod Missing
+pub mod Passing
+pub mod Prefixes
+pub mod Cuts
+pub mod Fails

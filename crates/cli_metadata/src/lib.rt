@@ -23,7 +23,7 @@ mod widths;
 
 pub use dc_base::compressed;
 pub use fault::{MetaCause, MetaFault};
-pub use laws::{rows_are_ranges, tables_are_the_standards};
+pub use laws::{faults_are_wrongs, reading_is_standing, rows_are_ranges, tables_are_the_standards};
 pub use metadata::Metadata;
 pub use row::{Row, coded};
 pub use tables::{Coded, Column, TABLES, Targets};
