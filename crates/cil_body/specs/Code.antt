@@ -70,9 +70,13 @@ aim_of e jump = pos (e.0 + e.1.size) +ℤ jump
 abbrev pub starts_of : List Placed → List ℕ
 starts_of code = map (λ e. e.0) code
 
+-- an instruction starts at this place
+abbrev pub IsStart : List ℕ → ℤ → Type 0
+IsStart starts place = (start : ℕ) × (pos start ≡ place) × Contains starts start
+
 -- the jump leads to a place where an instruction starts
 abbrev pub HasAim : List ℕ → Placed → ℤ → Type 0
-HasAim starts e jump = (place : ℕ) × (pos place ≡ aim_of e jump) × Contains starts place
+HasAim starts e jump = IsStart starts (aim_of e jump)
 
 -- each jump of the instruction leads to the start of one
 abbrev pub IsAimed : List ℕ → List ℕ → Placed → Type 0
@@ -86,10 +90,6 @@ place_of (negsuc n) = 0
 -- the cases of a switch are all there
 abbrev pub HasCases : Operand → List ℕ → Type 0
 HasCases operand bytes = operand ≡ Switch → 5 + 4 * little_number 4 (drop 1 bytes) ≤ length bytes
-
--- an instruction starts at this place
-abbrev pub IsStart : List ℕ → ℤ → Type 0
-IsStart starts place = (start : ℕ) × (pos start ≡ place) × Contains starts start
 
 -- the jump leads to this place, and an instruction starts there
 abbrev pub IsTarget : List ℕ → Placed → ℤ → ℕ → Type 0

@@ -1,7 +1,6 @@
 // Whether regions lie in one another as they have to.
 
 ghost use Rattle.std.specs.Prelude.{◌≡◌, ℕ, ◌<◌, ◌≤◌, min, length, slice_index, All, AllPairs, Any, IfOk, MatchBool, MatchOption};
-ghost use Rattle.std.specs.Bool.{OnTrue};
 ghost use Rattle.cil_body.specs.Region.{HasRanges, AreLaminar, ComesBefore, CrossesAt, IsLeast, IsLooseAt};
 ghost use Rattle.cil_body.specs.Laid.{AreRising, AreFirsts, AreOrdered, AreLaid, AreChained, AreParents, AgreeAt, IsLeastDisagreement, Crosses, IsRepeated, DifferInName};
 
@@ -30,7 +29,7 @@ pub fn crossing(spans: &[Span]) -> Option<u32>
 // Whether a region has the range of the one before it, so that it crosses no other than that one does.
 fn repeats(spans: &[Span], i: usize) -> bool
     requires { i < length spans.now }
-    ensures { OnTrue result (IsRepeated spans.now i) }
+    ensures { MatchBool result (IsRepeated spans.now i) (IsRepeated spans.now i → ⊥) }
 {
     i > 0 && spans[i - 1].from == spans[i].from && spans[i - 1].to == spans[i].to
 }
