@@ -1,11 +1,11 @@
 -- A step that is put together of steps which have one answer each has one.
-use Rattle.std.proofs.Common.{◌≡◌, ◌⊎◌, ℕ, zero, suc, ◌+◌, ◌<◌, ◌≤◌, List, [], ◌∷◌, length, get_or, All, Result, Ok, Err, refl, sym, ◌∙◌, ap, subst, inl, inr, arith}
-use Rattle.std.proofs.lemmas.Bool.{cases_lt, cases_order}
+use Rattle.std.proofs.Common.{◌≡◌, ◌⊎◌, ℕ, zero, suc, ◌+◌, ◌<◌, ◌≤◌, List, [], ◌∷◌, All, Result, Ok, Err, refl, subst, inl, inr, arith}
+use Rattle.std.proofs.lemmas.Bool.{cases_lt}
 use Rattle.dc_causes.specs.First.{IsFirstOff, IsLeast}
 use Rattle.dc_causes.specs.Step.{Step, Gives, Test, Reads, Then, stop, go, Told, Traverse}
 use Rattle.dc_causes.specs.Causes.{InOrder, Each, Least, Below, Rounds}
 use Rattle.dc_causes.specs.Answer.{Decided, IsExact}
-use Rattle.dc_causes.proofs.Single.{single-gives, single-test, single-reads, single-then, single-told, single-traverse, single-in_order, single-each, single-least, single-below, single-rounds}
+use Rattle.dc_causes.proofs.Single.{single-gives, single-test, single-reads, single-then, single-told, single-each, single-least, single-below, single-rounds}
 
 pub exact-gives : {A F : Type 0} (a : A) → IsExact {F = F} (Gives a)
 exact-gives a = record { some = (Ok a, refl); one = single-gives a }

@@ -3,3 +3,4 @@ pub mod SameLists
 pub mod Single
 pub mod Exact
 pub mod Order
+pub mod Rows

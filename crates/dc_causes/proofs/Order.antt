@@ -1,6 +1,6 @@
 -- `InOrder` in one sentence: all causes are passed, or one has the fault and each before it is passed.
-use Rattle.std.proofs.Common.{◌≡◌, ℕ, zero, suc, ◌<◌, List, [], ◌∷◌, ◌++◌, length, All, Result, Ok, Err, refl, sym, ◌∙◌, ap, subst, arith}
-use Rattle.dc_causes.specs.Step.{Step, Then, stop, go}
+use Rattle.std.proofs.Common.{zero, suc, List, [], ◌∷◌, ◌++◌, All, Ok, Err, refl, sym, ap, subst, arith}
+use Rattle.dc_causes.specs.Step.{Step, stop, go}
 use Rattle.dc_causes.specs.Causes.{InOrder, IsFirstFault}
 use Rattle.dc_causes.proofs.Single.{err_is, not_both}
 

@@ -1,7 +1,6 @@
 -- A step that is put together of steps which never have two answers never has two.
-use Rattle.std.proofs.Common.{◌≡◌, ℕ, ◌+◌, ◌<◌, List, [], ◌∷◌, All, Result, Ok, Err, refl, sym, ◌∙◌, ap, subst, inl, inr, arith}
+use Rattle.std.proofs.Common.{◌≡◌, ℕ, ◌+◌, ◌<◌, List, [], ◌∷◌, Result, Ok, Err, refl, sym, ◌∙◌, ap, subst, inl, inr}
 use Rattle.std.proofs.lemmas.Bool.{cases_order}
-use Rattle.dc_causes.specs.First.{IsFirstOff, IsLeast}
 use Rattle.dc_causes.specs.Step.{Step, Gives, Test, Reads, Then, stop, go, Told, Traverse}
 use Rattle.dc_causes.specs.Causes.{InOrder, Each, Least, Below, Rounds}
 use Rattle.dc_causes.specs.Answer.{IsSingle}

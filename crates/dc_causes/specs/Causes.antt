@@ -1,7 +1,7 @@
 -- Causes in their order: the fault is that of the first cause that holds, at its least place.
-use Rattle.std.specs.Prelude.{◌≡◌, ℕ, ◌<◌, List, [], ◌∷◌, ◌++◌, All, Result, Ok, Err}
+use Rattle.std.specs.Prelude.{◌≡◌, ℕ, ◌<◌, List, [], ◌∷◌, ◌++◌, All, Ok, Err}
 use Rattle.dc_causes.specs.First.{IsFirstOff, IsLeast}
-use Rattle.dc_causes.specs.Step.{Step, Then, Test}
+use Rattle.dc_causes.specs.Step.{Step, Then}
 
 -- each cause is asked in its order, and the first that faults counts
 abbrev pub InOrder : {C F : Type 0} → (C → Step (Unit {0}) F) → List C → Step (Unit {0}) F

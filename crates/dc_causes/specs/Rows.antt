@@ -24,4 +24,4 @@ pub record IsRepeated {K : Type 0} (eq : K → K → Bool) (keys : List K) (n : 
   pub within : n < length keys
   pub earlier : ℕ
   pub before : earlier < n
-  pub equal : (d : K) → eq (slice_index_or keys earlier d) (slice_index_or keys n d) ≡ true
+  pub equal : (d : K) → eq (slice_index_or keys n d) (slice_index_or keys earlier d) ≡ true
