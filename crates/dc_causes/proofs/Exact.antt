@@ -1,11 +1,12 @@
 -- A step that is put together of steps which have one answer each has one.
-use Rattle.std.proofs.Common.{◌≡◌, ◌⊎◌, ℕ, zero, suc, ◌+◌, ◌<◌, ◌≤◌, List, [], ◌∷◌, All, Result, Ok, Err, refl, subst, inl, inr, arith}
+use Rattle.std.proofs.Common.{◌≡◌, ◌⊎◌, ℕ, zero, suc, ◌+◌, ◌<◌, ◌≤◌, List, [], ◌∷◌, ◌++◌, length, get_or, All, Result, Ok, Err, refl, sym, ◌∙◌, subst, inl, inr, arith}
 use Rattle.std.proofs.lemmas.Bool.{cases_lt}
+use Rattle.std.proofs.lemmas.List.{length-append, get_or_append_left, get_or_push}
 use Rattle.dc_causes.specs.First.{IsFirstOff, IsLeast}
-use Rattle.dc_causes.specs.Step.{Step, Gives, Test, Reads, Then, stop, go, Told, Traverse}
+use Rattle.dc_causes.specs.Step.{Step, Gives, Test, Reads, Then, stop, go, Told, Traverse, Times}
 use Rattle.dc_causes.specs.Causes.{InOrder, Each, Least, Below, Rounds}
 use Rattle.dc_causes.specs.Answer.{Decided, IsExact}
-use Rattle.dc_causes.proofs.Single.{single-gives, single-test, single-reads, single-then, single-told, single-each, single-least, single-below, single-rounds}
+use Rattle.dc_causes.proofs.Single.{single-gives, single-test, single-reads, single-then, single-told, single-times, single-each, single-least, single-below, single-rounds}
 
 pub exact-gives : {A F : Type 0} (a : A) → IsExact {F = F} (Gives a)
 exact-gives a = record { some = (Ok a, refl); one = single-gives a }
@@ -131,3 +132,28 @@ some-least Fact fault bound below (inr (n, least)) = (Err (fault n), (n, least, 
 pub exact-least : {F : Type 0} (Fact : ℕ → Type 0) (fault : ℕ → F) → ((n : ℕ) → Decided (Fact n)) → (bound : ℕ) → ((n : ℕ) → Fact n → n < bound) → IsExact (Least Fact fault)
 exact-least Fact fault decided bound below =
     record { some = some-least Fact fault bound below (none_or_least Fact decided bound); one = single-least Fact fault }
+
+some-times : {A F : Type 0} (Visit : ℕ → Step A F) → ((k : ℕ) → IsExact (Visit k)) → (count : ℕ) → (r : Result (List A) F) × Times count Visit r
+some-times Visit exact zero = (Ok [], (refl, λ k d lt. absurd (omega (arith, lt))))
+some-times {A} {F} Visit exact (suc n) = more (some-times Visit exact n).0 (some-times Visit exact n).1 (exact n).some.0 (exact n).some.1 where
+  more : (r : Result (List A) F) → Times n Visit r → (s : Result A F) → Visit n s → (t : Result (List A) F) × Times (suc n) Visit t
+  more (Err f) p s q = (Err f, (p.0, omega (arith, p.1), p.2, p.3))
+  more (Ok xs) p (Err f) q = (Err f, (n, omega arith, (λ j lt. read xs p.0 (λ d. p.1 j d lt) lt), q)) where
+    read : {j : ℕ} (ys : List A) → length ys ≡ n → ((d : A) → Visit j (Ok (get_or ys j d))) → j < n → (a : A) × Visit j (Ok a)
+    read [] e is lt = absurd (omega (arith, e, lt))
+    read {j} (y ∷ ys) e is lt = (get_or (y ∷ ys) j y, is y)
+  more (Ok xs) p (Ok x) q = (
+    Ok (xs ++ (x ∷ [])),
+    (
+      let long : length xs + 1 ≡ suc n = omega (arith, p.0) in length-append xs (x ∷ []) ∙ long,
+      λ k d lt. elim (cases_lt k n) [
+        | inl less ↦ subst (λ (a : A). Visit k (Ok a)) (sym (get_or_append_left xs (x ∷ []) d k (omega (arith, p.0, less)))) (p.1 k d less)
+        | inr le ↦ (let e : n ≡ k = omega (arith, le, lt) in let at : length xs ≡ k = p.0 ∙ e in
+            subst (λ (a : A). Visit k (Ok a)) (sym (get_or_push xs x d k at)) (subst (λ (m : ℕ). Visit m (Ok x)) e q))
+      ],
+    ),
+  )
+
+pub exact-times : {A F : Type 0} (count : ℕ) (Visit : ℕ → Step A F) → ((k : ℕ) → IsExact (Visit k)) → IsExact (Times count Visit)
+exact-times count Visit exact =
+    record { some = some-times Visit exact count; one = single-times count Visit (λ k. (exact k).one) }

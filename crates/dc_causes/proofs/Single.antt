@@ -1,7 +1,8 @@
 -- A step that is put together of steps which never have two answers never has two.
-use Rattle.std.proofs.Common.{◌≡◌, ℕ, ◌+◌, ◌<◌, List, [], ◌∷◌, Result, Ok, Err, refl, sym, ◌∙◌, ap, subst, inl, inr}
+use Rattle.std.proofs.Common.{◌≡◌, ℕ, ◌+◌, ◌<◌, List, [], ◌∷◌, length, get_or, Result, Ok, Err, refl, sym, ◌∙◌, ap, subst, inl, inr, arith}
+use Rattle.std.proofs.lemmas.List.{same_lists}
 use Rattle.std.proofs.lemmas.Bool.{cases_order}
-use Rattle.dc_causes.specs.Step.{Step, Gives, Test, Reads, Then, stop, go, Told, Traverse}
+use Rattle.dc_causes.specs.Step.{Step, Gives, Test, Reads, Then, stop, go, Told, Traverse, Times}
 use Rattle.dc_causes.specs.Causes.{InOrder, Each, Least, Below, Rounds}
 use Rattle.dc_causes.specs.Answer.{IsSingle}
 use Rattle.dc_causes.proofs.First.{not_off, one_index, one_first, one_least}
@@ -17,6 +18,12 @@ not_both a f e = absurd cc
 
 one_unit : {F : Type 0} (a b : Unit {0}) → ◌≡◌ {A = Result (Unit {0}) F} (Ok a) (Ok b)
 one_unit a b = refl
+
+-- a step that is read has no fault
+read_not_stopped : {A F : Type 0} (Visit : ℕ → Step A F) → ((k : ℕ) → IsSingle (Visit k)) → (k : ℕ) (xs : List A) (f : F) → ((d : A) → Visit k (Ok (get_or xs k d))) → Visit k (Err f) → k < length xs → ⊥
+read_not_stopped Visit one k [] f read fails lt = absurd (omega (arith, lt))
+read_not_stopped Visit one k (x ∷ xs) f read fails lt =
+    not_both (get_or (x ∷ xs) k x) f (one k (Ok (get_or (x ∷ xs) k x)) (Err f) (read x) fails)
 
 pub single-gives : {A F : Type 0} (a : A) → IsSingle {F = F} (Gives a)
 single-gives a r s p q = p ∙ sym q
@@ -94,3 +101,19 @@ single-rounds Round one (Ok a) (Ok b) p q = refl
 single-rounds Round one (Ok a) (Err g) p q = absurd (not_both tt g (one q.0 (Ok tt) (Err g) (p q.0) q.2))
 single-rounds Round one (Err f) (Ok b) p q = absurd (not_both tt f (one p.0 (Ok tt) (Err f) (q p.0) p.2))
 single-rounds Round one (Err f) (Err g) p q = ap Err (one_stop Round one p.0 q.0 f g p.1 p.2 q.1 q.2)
+
+pub single-times : {A F : Type 0} (count : ℕ) (Visit : ℕ → Step A F) → ((k : ℕ) → IsSingle (Visit k)) → IsSingle (Times count Visit)
+single-times {A} count Visit one (Ok xs) (Ok ys) p q =
+    ap Ok (same_lists xs ys (p.0 ∙ sym q.0) (λ k d lt.
+    let less : k < count = omega (arith, p.0, lt) in
+    ok_is (get_or xs k d) (get_or ys k d) (one k (Ok (get_or xs k d)) (Ok (get_or ys k d)) (p.1 k d less) (q.1 k d less))))
+single-times {A} count Visit one (Ok xs) (Err g) p q = absurd (read_not_stopped Visit one q.0 xs g (λ d. p.1 q.0 d q.1) q.3 (omega (arith, p.0, q.1)))
+single-times {A} count Visit one (Err f) (Ok ys) p q = absurd (read_not_stopped Visit one p.0 ys f (λ d. q.1 p.0 d p.1) p.3 (omega (arith, q.0, p.1)))
+single-times {A} count Visit one (Err f) (Err g) p q =
+    elim (cases_order p.0 q.0) [
+      | inl e ↦ ap Err (err_is f g (one q.0 (Err f) (Err g) (subst (λ (k : ℕ). Visit k (Err f)) e p.3) q.3))
+      | inr w ↦ elim w [
+        | inl less ↦ (let a = q.2 p.0 less in absurd (not_both a.0 f (one p.0 (Ok a.0) (Err f) a.1 p.3)))
+        | inr less ↦ (let a = p.2 q.0 less in absurd (not_both a.0 g (one q.0 (Ok a.0) (Err g) a.1 q.3)))
+      ]
+    ]

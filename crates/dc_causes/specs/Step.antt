@@ -1,5 +1,5 @@
 -- A reader as steps. A step is a relation to its own answers: `Ok` with what it reads, `Err` with its fault.
-use Rattle.std.specs.Prelude.{◌≡◌, List, [], ◌∷◌, ℕ, ◌+◌, Result, Ok, Err}
+use Rattle.std.specs.Prelude.{◌≡◌, List, [], ◌∷◌, length, slice_index_or, ℕ, ◌+◌, ◌<◌, Result, Ok, Err}
 
 -- a step that reads an A or has a fault F
 abbrev pub Step : Type 0 → Type 0 → Type 1
@@ -42,3 +42,10 @@ Told {E = E} tell Inner (Err f) = (e : E) × Inner (Err e) × (f ≡ tell e)
 abbrev pub Traverse : {X A F : Type 0} → (ℕ → X → Step A F) → ℕ → List X → Step (List A) F
 Traverse Visit k [] r = r ≡ Ok []
 Traverse Visit k (x ∷ xs) r = Then (Visit k x) (λ a. Then (Traverse Visit (k + 1) xs) (λ rest. Gives (a ∷ rest))) r
+
+-- what so many steps read, one for each number from 0 on; the first fault counts
+abbrev pub Times : {A F : Type 0} → ℕ → (ℕ → Step A F) → Step (List A) F
+Times {A} count Visit (Ok values) =
+    (length values ≡ count) × ((k : ℕ) (d : A) → k < count → Visit k (Ok (slice_index_or values k d)))
+Times {A} count Visit (Err f) =
+    (k : ℕ) × (k < count) × ((j : ℕ) → j < k → (a : A) × Visit j (Ok a)) × Visit k (Err f)

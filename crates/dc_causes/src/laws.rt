@@ -1,7 +1,7 @@
 // What follows from the form, for the crates above.
 
 ghost use Rattle.std.specs.Prelude.{◌≡◌, ◌↔◌, ◌⊎◌, ◌≤◌, ◌<◌, ℕ, List, All, Result, Ok, Err};
-ghost use Rattle.dc_causes.specs.Step.{Test, Reads, Then, Told, Traverse};
+ghost use Rattle.dc_causes.specs.Step.{Test, Reads, Then, Told, Traverse, Times};
 ghost use Rattle.dc_causes.specs.Causes.{InOrder, Each, Least, Below, Rounds, IsFirstFault};
 ghost use Rattle.dc_causes.specs.Answer.{Decided, IsSingle, IsExact};
 
@@ -30,6 +30,8 @@ pub trait Parts {
 
     ghost Visit: { ℕ → Self.Item → Result Self.Value Self.Fault → Type 0 };
 
+    ghost Numbered: { ℕ → Result Self.Value Self.Fault → Type 0 };
+
     ghost Asked: { Self.Item → Result (Unit {0}) Self.Fault → Type 0 };
 
     ghost Round: { ℕ → Result (Unit {0}) Self.Fault → Type 0 };
@@ -49,6 +51,7 @@ pub fn parts_keep_one_answer<P: Parts>()
     ensures chain { IsSingle P.First → ((a : P.Read) → P.First (Ok a) → IsSingle (P.Next a)) → IsSingle (Then P.First P.Next) }
     ensures told { IsSingle P.First → IsSingle (Told P.tell P.First) }
     ensures traverse { ((k : ℕ) (x : P.Item) → IsSingle (P.Visit k x)) → (k : ℕ) (xs : List P.Item) → IsSingle (Traverse P.Visit k xs) }
+    ensures times { ((k : ℕ) → IsSingle (P.Numbered k)) → (count : ℕ) → IsSingle (Times count P.Numbered) }
     ensures in_order { ((x : P.Item) → IsSingle (P.Asked x)) → (xs : List P.Item) → IsSingle (InOrder P.Asked xs) }
     ensures each { (xs : List P.Item) → IsSingle (Each P.Fact P.fault xs) }
     ensures least { (x : P.Item) → IsSingle (Least P.OfNumber (λ n. P.fault n x)) }
@@ -63,6 +66,7 @@ pub fn parts_keep_an_answer<P: Parts>()
     ensures chain { IsExact P.First → ((a : P.Read) → P.First (Ok a) → IsExact (P.Next a)) → IsExact (Then P.First P.Next) }
     ensures told { IsExact P.First → IsExact (Told P.tell P.First) }
     ensures traverse { ((k : ℕ) (x : P.Item) → IsExact (P.Visit k x)) → (k : ℕ) (xs : List P.Item) → IsExact (Traverse P.Visit k xs) }
+    ensures times { ((k : ℕ) → IsExact (P.Numbered k)) → (count : ℕ) → IsExact (Times count P.Numbered) }
     ensures in_order { ((x : P.Item) → IsExact (P.Asked x)) → (xs : List P.Item) → IsExact (InOrder P.Asked xs) }
     ensures each { ((x : P.Item) → Decided (P.Fact x)) → (xs : List P.Item) → IsExact (Each P.Fact P.fault xs) }
     ensures least { ((n : ℕ) → Decided (P.OfNumber n)) → (bound : ℕ) → ((n : ℕ) → P.OfNumber n → n < bound) → (x : P.Item) → IsExact (Least P.OfNumber (λ n. P.fault n x)) }

@@ -1,4 +1,4 @@
-use Rattle.dc_causes.proofs.Exact.{exact-test, exact-reads, exact-then, exact-told, exact-traverse, exact-in_order, exact-each, exact-least, exact-below, exact-rounds}
+use Rattle.dc_causes.proofs.Exact.{exact-test, exact-reads, exact-then, exact-told, exact-traverse, exact-times, exact-in_order, exact-each, exact-least, exact-below, exact-rounds}
 use Rattle.dc_causes.proofs.laws.parts_keep_an_answer.Goals as goal
 
 pub returns-clause-test : goal.returns-clause-test
@@ -30,3 +30,6 @@ returns-clause-below g c = λ one bound. exact-below bound _ one
 
 pub returns-clause-rounds : goal.returns-clause-rounds
 returns-clause-rounds g c = λ one bound beyond. exact-rounds _ one bound beyond
+
+pub returns-clause-times : goal.returns-clause-times
+returns-clause-times g c = λ one count. exact-times count _ one

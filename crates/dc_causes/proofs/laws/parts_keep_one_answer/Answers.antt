@@ -1,4 +1,4 @@
-use Rattle.dc_causes.proofs.Single.{single-test, single-reads, single-then, single-told, single-traverse, single-in_order, single-each, single-least, single-below, single-rounds}
+use Rattle.dc_causes.proofs.Single.{single-test, single-reads, single-then, single-told, single-traverse, single-times, single-in_order, single-each, single-least, single-below, single-rounds}
 use Rattle.dc_causes.proofs.laws.parts_keep_one_answer.Goals as goal
 
 pub returns-clause-test : goal.returns-clause-test
@@ -30,3 +30,6 @@ returns-clause-below g c = λ one bound. single-below bound _ one
 
 pub returns-clause-rounds : goal.returns-clause-rounds
 returns-clause-rounds g c = λ one. single-rounds _ one
+
+pub returns-clause-times : goal.returns-clause-times
+returns-clause-times g c = λ one count. single-times count _ one
