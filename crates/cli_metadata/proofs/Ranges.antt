@@ -7,12 +7,12 @@ use Rattle.cli_metadata.specs.declared.tables.Column.{Column}
 use Rattle.cli_metadata.specs.declared.tables.TheConstants.{TABLES}
 use Rattle.cli_metadata.specs.declared.widths.Width.{Width}
 use Rattle.cli_metadata.specs.declared.layout.Placed.{Placed}
-use Rattle.cli_metadata.specs.declared.layout.TheConstants.{UNPLACED}
 use Rattle.cli_metadata.specs.Reading.{◌>>=◌, behind}
 use Rattle.cli_metadata.specs.Root.{streams_of}
+use Rattle.cli_metadata.specs.Numbers.{number_of}
 use Rattle.cli_metadata.specs.Widths.{width_of, row_width}
 use Rattle.cli_metadata.specs.Layout.{prefix_at, counts_at, table_at, tables_at, tables_of, ArePlaced}
-use Rattle.cli_metadata.specs.Metadata.{Contents, up_to_tables, metadata_with}
+use Rattle.cli_metadata.specs.Metadata.{nowhere, Contents, up_to_tables, metadata_with}
 use Rattle.cli_metadata.specs.Laws.{AreConsecutive, TablesAreConsecutive, RowsAreWithin, PlacesCountFromRoot}
 use Rattle.cli_metadata.proofs.Places.{ok_is, bind_ok, guard_whole, placed-at, tables-placed}
 use Rattle.cli_metadata.proofs.Whole.{contents}
@@ -80,8 +80,8 @@ tables_are_consecutive bytes m e = let r = is-read TABLES bytes m e in (r.stand.
 pub rows_are_within : RowsAreWithin
 rows_are_within bytes m table n e low high =
     let r = is-read TABLES bytes m e in
-    let p = get_or m.tables table UNPLACED in
-    row-fits p.start p.rows (row_width p.widths) n (length m.stream) low high (placed-at (length m.stream) m.tables table UNPLACED (omega arith) r.stand.whole)
+    let p = get_or m.tables (number_of table) nowhere in
+    row-fits p.start p.rows (row_width p.widths) n (length m.stream) low high (placed-at (length m.stream) m.tables (number_of table) nowhere (omega arith) r.stand.whole)
 
 pub places_count_from_root : PlacesCountFromRoot
 places_count_from_root bytes m e = let r = is-read TABLES bytes m e in (r.front, r.stream)

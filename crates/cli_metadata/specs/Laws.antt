@@ -1,5 +1,6 @@
 -- What follows from the definitions, in ranges of bytes.
 use Rattle.std.specs.Prelude.{◌≡◌, ◌≤◌, ℕ, ◌+◌, ◌*◌, List, [], ◌∷◌, length, take, Ok}
+use Rattle.cli_metadata.specs.declared.tables.Table.{Table}
 use Rattle.cli_metadata.specs.declared.layout.Placed.{Placed}
 use Rattle.cli_metadata.specs.Widths.{row_width}
 use Rattle.cli_metadata.specs.Metadata.{Contents, metadata_of, placed_of, rows_of, row_start}
@@ -16,7 +17,7 @@ TablesAreConsecutive = (bytes : List ℕ) (m : Contents) → metadata_of bytes �
 -- each row of metadata stands whole in the stream of tables
 abbrev pub RowsAreWithin : Type 0
 RowsAreWithin =
-    (bytes : List ℕ) (m : Contents) (table n : ℕ) → metadata_of bytes ≡ Ok m → 1 ≤ n → n ≤ rows_of m table
+    (bytes : List ℕ) (m : Contents) (table : Table) (n : ℕ) → metadata_of bytes ≡ Ok m → 1 ≤ n → n ≤ rows_of m table
     → row_start (placed_of m table) n + row_width (placed_of m table).widths ≤ length m.stream
 
 -- the stream of tables is seen with all that stands before it, so that its places count from the root's first byte

@@ -7,16 +7,16 @@ use Rattle.dc_base.specs.Spelling.{BeginsWithNumber, BeginsWithNone}
 use Rattle.cli_metadata.specs.declared.fault.MetaFault.{MetaFault}
 use Rattle.cli_metadata.specs.declared.fault.MetaCause.{MetaCause}
 use Rattle.cli_metadata.specs.declared.fault.MetaCause.TheVariants.{BadIndex, BadText, BadBlob}
-use Rattle.cli_metadata.specs.declared.tables.Coded.{Coded}
+use Rattle.cli_metadata.specs.declared.coded_index.Coded.{Coded}
+use Rattle.cli_metadata.specs.declared.tables.Table.{Table}
 use Rattle.cli_metadata.specs.declared.tables.Column.{Column}
-use Rattle.cli_metadata.specs.declared.tables.Targets.{Targets}
+use Rattle.cli_metadata.specs.declared.coded_index.Targets.{Targets}
 use Rattle.cli_metadata.specs.declared.tables.TheConstants.{TABLES}
 use Rattle.cli_metadata.specs.declared.root.Stream.{Stream}
 use Rattle.cli_metadata.specs.declared.root.Streams.{Streams}
 use Rattle.cli_metadata.specs.declared.widths.Width.{Width}
 use Rattle.cli_metadata.specs.declared.layout.Placed.{Placed}
-use Rattle.cli_metadata.specs.declared.layout.TheConstants.{UNPLACED}
-use Rattle.cli_metadata.specs.declared.row.Row.{Row}
+use Rattle.cli_metadata.specs.Numbers.{number_of}
 use Rattle.cli_metadata.specs.Tables.{targets_of}
 use Rattle.cli_metadata.specs.Reading.{◌>>=◌}
 use Rattle.cli_metadata.specs.Root.{streams_of}
@@ -60,11 +60,16 @@ metadata_of bytes = metadata_with TABLES bytes
 
 -- ---- rows
 
--- where a table stands; a number that no table has has no rows
-abbrev pub placed_of : Contents → ℕ → Placed
-placed_of m table = slice_index_or m.tables table UNPLACED
+-- where a table without rows stands
+abbrev pub nowhere : Placed
+nowhere = record { rows = 0; start = 0; widths = [] }
 
-abbrev pub rows_of : Contents → ℕ → ℕ
+-- where a table stands
+abbrev pub placed_of : Contents → Table → Placed
+placed_of m table = slice_index_or m.tables (number_of table) nowhere
+
+-- how many rows a table has
+abbrev pub rows_of : Contents → Table → ℕ
 rows_of m table = (placed_of m table).rows
 
 -- the numbers in cells of these widths, each directly behind the one before it, the least byte first
@@ -76,16 +81,16 @@ cells_of (w ∷ widths) bytes = little_number (bytes_in w) bytes ∷ cells_of wi
 abbrev pub row_start : Placed → ℕ → ℕ
 row_start p n = p.start + (n - 1) * row_width p.widths
 
--- row n of a table
-abbrev pub row_of : Contents → ℕ → ℕ → Row
+-- the numbers in the cells of row n of a table, with 0 behind the last
+abbrev pub row_of : Contents → Table → ℕ → List ℕ
 row_of m table n =
     let p = placed_of m table in
-    record { table = table; cells = cells_of p.widths (drop (row_start p n) m.stream) }
+    cells_of p.widths (drop (row_start p n) m.stream)
 
 -- the token of a row of a table, where there is such a table and the row fits three bytes
-abbrev pub token_of : Option ℕ → ℕ → Option Token
+abbrev pub token_of : Option Table → ℕ → Option Token
 token_of None row = None
-token_of (Some table) row = if nat_lt 0xFFFFFF row then None else Some (record { 0 = table * 2 ^ 24 + row })
+token_of (Some table) row = if nat_lt 0xFFFFFF row then None else Some (record { 0 = number_of table * 2 ^ 24 + row })
 
 -- the token that a coded index means: the tag of its table is in the low bits, and the row above them (II.24.2.6)
 abbrev pub coded_with : Targets → ℕ → Option Token

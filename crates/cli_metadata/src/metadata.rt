@@ -7,8 +7,8 @@ ghost use Rattle.cli_metadata.specs.Metadata.{metadata_of, heap_of, rows_of, row
 use crate::layout::{Placed, tables_of};
 use crate::reading::{front, rest};
 use crate::root::{Stream, streams_of};
-use crate::row::{cells_of, placed_in, row_start};
-use crate::{MetaFault, Row, TABLES, heaps};
+use crate::row::{cells_of, row_start};
+use crate::{MetaFault, TABLE_NUMBERS, TABLES, Table, TableRow, heaps};
 use std::marker::Model;
 
 /// The metadata of a file: what its rows and heaps hold are slices of the bytes that it was made of. Contracts see the
@@ -19,7 +19,7 @@ pub struct Metadata<'a> {
     user_strings: &'a [u8],
     blobs: &'a [u8],
     stream: &'a [u8],
-    tables: [Placed; 45],
+    tables: [Placed; TABLE_NUMBERS],
 }
 
 impl<'a> Model for Metadata<'a> {
@@ -63,23 +63,22 @@ impl<'a> Metadata<'a> {
         })
     }
 
-    /// The number of rows of a table; 0 where there is no such table.
-    pub fn rows(&self, table: u8) -> u32
+    /// The number of rows of a table.
+    pub fn rows(&self, table: Table) -> u32
         ensures { result ≡ rows_of self.now table }
     {
-        placed_in(&self.tables, table).rows
+        self.tables[usize::from(table.number())].rows
     }
 
-    /// A row of a table, in constant time. Rows count from 1.
-    pub fn row(&self, table: u8, n: u32) -> Row
+    /// A row, in constant time. Rows count from 1.
+    pub fn row<R: TableRow>(&self, n: u32) -> R
         requires low { 1 ≤ n }
-        requires high { n ≤ rows_of self.now table }
-        ensures { result ≡ row_of self.now table n }
+        requires high { n ≤ rows_of self.now R.TABLE }
+        ensures { result ≡ R.of_cells (row_of self.now R.TABLE n) }
     {
-        let placed = placed_in(&self.tables, table);
+        let placed = self.tables[usize::from(R::TABLE.number())];
         let start = row_start(&placed, n, self.stream.len());
-        let cells = cells_of(&placed.widths, rest(self.stream, start));
-        Row { table, cells }
+        R::of(&cells_of(&placed.widths, rest(self.stream, start)))
     }
 
     /// The text that begins at a place of the heap of strings.
