@@ -1,6 +1,6 @@
 -- The stream of tables: its header, and where the tables stand in it (ECMA-335 II.24.2.6). Places count from the root's
 -- first byte, and the bytes are those up to the end of the stream.
-use Rattle.std.specs.Prelude.{◌≤◌, ℕ, zero, suc, ◌+◌, ◌*◌, ◌/◌, ◌%◌, List, [], ◌∷◌, Bool, true, false, Result, Ok, ◌==◌, ◌&&◌, ◌||◌, if◌then◌else◌, slice_index, map}
+use Rattle.std.specs.Prelude.{◌≤◌, ℕ, zero, suc, ◌+◌, ◌*◌, ◌/◌, ◌%◌, List, [], ◌∷◌, Bool, true, false, Result, Ok, nat_lt, ◌==◌, ◌&&◌, ◌||◌, if◌then◌else◌, slice_index, map}
 use Rattle.cli_metadata.specs.declared.fault.MetaFault.{MetaFault}
 use Rattle.cli_metadata.specs.declared.fault.MetaCause.TheVariants.{BadHeader, UnknownTable, Truncated}
 use Rattle.cli_metadata.specs.declared.tables.Column.{Column}
@@ -26,7 +26,8 @@ are_tables valid [] = valid == 0
 are_tables valid (t ∷ tables) = (valid % 2 == 0 || is_table t) && are_tables (valid / 2) tables
 
 -- The fields before the row counts: a reserved number, the major and the minor version, HeapSizes, a reserved byte, and
--- which tables are there and sorted. No table is there whose number no table has.
+-- which tables are there and sorted. No bit of HeapSizes is set but the lowest three, and no table is there whose number
+-- no table has.
 unfoldable pub versioned_at : List ℕ → ℕ → Result ℕ MetaFault
 versioned_at bytes at = do
   reserved ← number_at BadHeader 4 bytes at
@@ -39,6 +40,7 @@ unfoldable pub prefix_at : List (List Column) → List ℕ → ℕ → Result Pr
 prefix_at tables bytes at = do
   versioned ← versioned_at bytes at
   sizes ← number_at BadHeader 1 bytes (at + 6)
+  known_sizes ← holds (nat_lt sizes 8) BadHeader (at + 6)
   reserved ← number_at BadHeader 1 bytes (at + 7)
   valid ← number_at BadHeader 8 bytes (at + 8)
   sorted ← number_at BadHeader 8 bytes (at + 16)

@@ -106,8 +106,8 @@ pub record IsRowCount (bytes : List ℕ) (counts valid k rows : ℕ) : Type 0 wh
 abbrev pub rows_by_number : List Placed → List ℕ
 rows_by_number placed = map (λ p. p.rows) placed
 
--- The stream of tables at a place, in the bytes up to its end: four reserved bytes, with any value; version 2.0; HeapSizes;
--- a reserved byte, with any value; Valid, in which each bit that is set is that of a table with columns; Sorted, with any
+-- The stream of tables at a place, in the bytes up to its end: four reserved bytes, with any value; version 2.0; HeapSizes,
+-- in which no bit is set but 1, 2 and 4; a reserved byte, with any value; Valid, in which each bit that is set is that of a table with columns; Sorted, with any
 -- value; the row counts, each directly behind the one before it; the tables, which stand whole, also one behind the other.
 -- How wide a table's cells are is told by its columns, HeapSizes and the row counts.
 pub record AreTables (tables : List (List Column)) (bytes : List ℕ) (at : ℕ) (placed : List Placed) : Type 0 where
@@ -116,6 +116,7 @@ pub record AreTables (tables : List (List Column)) (bytes : List ℕ) (at : ℕ)
   pub major : IsNumber 1 bytes (at + 4) 2
   pub minor : IsNumber 1 bytes (at + 5) 0
   pub heap_sizes : IsNumber 1 bytes (at + 6) sizes
+  pub known_sizes : sizes < 8
   pub bits : IsNumber 8 bytes (at + 8) valid
   pub prefix : at + 24 ≤ length bytes
   pub known : (k : ℕ) → bit valid k ≡ 1 → IsTrue (is_table (slice_index_or tables k []))

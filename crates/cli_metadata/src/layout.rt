@@ -9,7 +9,8 @@ use crate::reading::{behind, check, u8_at, u32_at, u64_at};
 use crate::widths::{Width, row_width, widths_of};
 use crate::{Column, MOST_COLUMNS, MetaCause, MetaFault, TABLE_NUMBERS};
 
-// What the fields before the row counts say: HeapSizes, and which tables are there.
+// What the fields before the row counts say: HeapSizes, whose bits 1, 2 and 4 are those of the heaps whose indices have
+// four bytes, and which tables are there.
 #[derive(Clone, Copy, Debug)]
 pub(crate) struct Prefix {
     pub sizes: u8,
@@ -80,6 +81,7 @@ pub(crate) fn prefix_at(
 {
     versioned_at(bytes, at)?;
     let sizes = u8_at(bytes, at + 6, MetaCause::BadHeader)?;
+    check(sizes < 8, at + 6, MetaCause::BadHeader)?;
     u8_at(bytes, at + 7, MetaCause::BadHeader)?;
     let valid = u64_at(bytes, at + 8, MetaCause::BadHeader)?;
     u64_at(bytes, at + 16, MetaCause::BadHeader)?;

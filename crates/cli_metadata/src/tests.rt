@@ -134,6 +134,8 @@ fn faults_stand_at_their_places(rt: HostRuntime) {
         (33, 0x78, MetaCause::BadStream, 100),
         (104, 0x01, MetaCause::BadHeader, 104),
         (105, 0x01, MetaCause::BadHeader, 105),
+        (106, 0x08, MetaCause::BadHeader, 106),
+        (106, 0x81, MetaCause::BadHeader, 106),
         (28, 0x14, MetaCause::BadHeader, 116),
         (108, 0x0F, MetaCause::UnknownTable, 108),
         (113, 0x20, MetaCause::UnknownTable, 108),
