@@ -11,7 +11,7 @@ use Rattle.cli_metadata.specs.declared.layout.Placed.{Placed}
 use Rattle.cli_metadata.specs.Reading.{◌>>=◌, behind, number_at}
 use Rattle.cli_metadata.specs.Widths.{width_of, row_width}
 use Rattle.cli_metadata.specs.Layout.{prefix_at, count_at, counts_at, table_at, tables_at, tables_of}
-use Rattle.cli_metadata.specs.Laws.{AreConsecutive}
+use Rattle.cli_metadata.specs.Standing.{AreConsecutive}
 use Rattle.cli_metadata.specs.Standing.{IsNumber, IsRowCount, bit, tables_below, rows_by_number}
 use Rattle.cli_metadata.specs.Wrong.{field, IsHeaderWrong, IsTableUnknown, IsCountCut, IsTableCut, IsCut}
 use Rattle.cli_metadata.proofs.Places.{ok_is, bind_ok}

@@ -8,7 +8,8 @@ use Rattle.cli_metadata.specs.declared.fault.MetaCause.{MetaCause}
 use Rattle.cli_metadata.specs.declared.fault.MetaCause.TheVariants.{BadHeader, UnknownTable}
 use Rattle.cli_metadata.specs.declared.tables.Column.{Column}
 use Rattle.cli_metadata.specs.Reading.{◌>>=◌, number_at, holds}
-use Rattle.cli_metadata.specs.Layout.{is_table, are_tables, versioned_at, prefix_at}
+use Rattle.cli_metadata.specs.Standing.{is_table}
+use Rattle.cli_metadata.specs.Layout.{are_tables, versioned_at, prefix_at}
 use Rattle.cli_metadata.specs.Standing.{bit}
 use Rattle.cli_metadata.specs.Wrong.{Field, field, field_of, field_below, IsRight, header_fields, IsHeaderWrong, IsTableUnknown}
 use Rattle.cli_metadata.proofs.Named.{all-none, all-more}

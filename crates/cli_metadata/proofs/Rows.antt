@@ -10,8 +10,9 @@ use Rattle.cli_metadata.specs.declared.widths.Width.{Width}
 use Rattle.cli_metadata.specs.declared.layout.Prefix.{Prefix}
 use Rattle.cli_metadata.specs.declared.layout.Placed.{Placed}
 use Rattle.cli_metadata.specs.Widths.{width_of, row_width}
-use Rattle.cli_metadata.specs.Layout.{are_tables, versioned_at, prefix_at, counts_at, table_at, tables_at, tables_of, ArePlaced}
-use Rattle.cli_metadata.specs.Laws.{AreConsecutive}
+use Rattle.cli_metadata.specs.Layout.{are_tables, versioned_at, prefix_at, counts_at, table_at, tables_at, tables_of}
+use Rattle.cli_metadata.specs.Standing.{ArePlaced}
+use Rattle.cli_metadata.specs.Standing.{AreConsecutive}
 use Rattle.cli_metadata.specs.Standing.{IsNumber, IsRowCount, AreTables, tables_below, rows_by_number}
 use Rattle.cli_metadata.proofs.Places.{ok_is, bind_ok}
 use Rattle.cli_metadata.proofs.Steps.{number-goes, behind-goes, holds-goes, holds-true, number-is, behind-is, number-there}

@@ -4,21 +4,12 @@ use Rattle.std.specs.Prelude.{◌≤◌, ℕ, zero, suc, ◌+◌, ◌*◌, ◌/�
 use Rattle.cli_metadata.specs.declared.fault.MetaFault.{MetaFault}
 use Rattle.cli_metadata.specs.declared.fault.MetaCause.TheVariants.{BadHeader, UnknownTable, Truncated}
 use Rattle.cli_metadata.specs.declared.tables.Column.{Column}
-use Rattle.cli_metadata.specs.declared.tables.Column.TheVariants as columns
 use Rattle.cli_metadata.specs.declared.widths.Width.{Width}
 use Rattle.cli_metadata.specs.declared.layout.Prefix.{Prefix}
 use Rattle.cli_metadata.specs.declared.layout.Placed.{Placed}
 use Rattle.cli_metadata.specs.Reading.{◌>>=◌, behind, number_at, holds}
 use Rattle.cli_metadata.specs.Widths.{width_of, row_width}
-
--- a table that has a column
-abbrev pub is_column : Column → Bool
-is_column columns.Absent = false
-is_column _ = true
-
-abbrev pub is_table : List Column → Bool
-is_table [] = false
-is_table (c ∷ cs) = is_column c
+use Rattle.cli_metadata.specs.Standing.{is_table}
 
 -- each bit that is set is the bit of a table, from the lowest bit and the first table on
 abbrev pub are_tables : ℕ → List (List Column) → Bool
@@ -80,8 +71,3 @@ tables_of tables bytes at = do
   prefix ← prefix_at tables bytes at
   counts ← counts_at 45 prefix.valid bytes (at + 24)
   tables_at prefix.sizes counts.0 tables 0 bytes counts.1
-
--- each row of these tables stands whole in so many bytes
-abbrev pub ArePlaced : ℕ → List Placed → Type 0
-ArePlaced len [] = Unit {0}
-ArePlaced len (p ∷ placed) = (p.start + p.rows * row_width p.widths ≤ len) × ArePlaced len placed

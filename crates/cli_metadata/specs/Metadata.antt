@@ -1,5 +1,5 @@
 -- Metadata: its heaps and its rows (ECMA-335 II.22, II.24).
-use Rattle.std.specs.Prelude.{◌≡◌, ◌≤◌, ◌<◌, ◌⊎◌, ℕ, ◌+◌, ◌-◌, ◌*◌, ◌/◌, ◌%◌, ◌^◌, List, [], ◌∷◌, ◌++◌, length, take, drop, Option, None, Some, Result, Ok, nat_lt, ◌==◌, if◌then◌else◌, slice_index_or, position, IsUtf8}
+use Rattle.std.specs.Prelude.{◌≡◌, ◌≤◌, ◌<◌, ◌⊎◌, ℕ, ◌+◌, ◌-◌, ◌*◌, ◌/◌, ◌%◌, ◌^◌, List, [], ◌∷◌, ◌++◌, length, take, drop, Option, None, Some, nat_lt, ◌==◌, if◌then◌else◌, slice_index_or, position, IsUtf8}
 use Rattle.std.specs.Option.{option_map}
 use Rattle.byteorder.specs.Endian.{little_number}
 use Rattle.dc_base.specs.declared.names.Token.{Token}
@@ -9,19 +9,14 @@ use Rattle.cli_metadata.specs.declared.fault.MetaCause.{MetaCause}
 use Rattle.cli_metadata.specs.declared.fault.MetaCause.TheVariants.{BadIndex, BadText, BadBlob}
 use Rattle.cli_metadata.specs.declared.coded_index.Coded.{Coded}
 use Rattle.cli_metadata.specs.declared.tables.Table.{Table}
-use Rattle.cli_metadata.specs.declared.tables.Column.{Column}
 use Rattle.cli_metadata.specs.declared.coded_index.Targets.{Targets}
-use Rattle.cli_metadata.specs.declared.tables.TheConstants.{TABLES}
 use Rattle.cli_metadata.specs.declared.root.Stream.{Stream}
 use Rattle.cli_metadata.specs.declared.root.Streams.{Streams}
 use Rattle.cli_metadata.specs.declared.widths.Width.{Width}
 use Rattle.cli_metadata.specs.declared.layout.Placed.{Placed}
 use Rattle.cli_metadata.specs.Numbers.{number_of}
-use Rattle.cli_metadata.specs.Tables.{targets_of}
-use Rattle.cli_metadata.specs.Reading.{◌>>=◌}
-use Rattle.cli_metadata.specs.Root.{streams_of}
+use Rattle.cli_metadata.specs.Standard.{standard_targets}
 use Rattle.cli_metadata.specs.Widths.{bytes_in, row_width}
-use Rattle.cli_metadata.specs.Layout.{tables_of}
 
 -- What metadata holds: its heaps, the bytes up to the end of the stream of tables, and where in them each table stands,
 -- by the table's number.
@@ -40,23 +35,6 @@ heap_of bytes (Some s) = take s.size (drop s.from bytes)
 -- the bytes up to the end of the stream of tables
 abbrev pub up_to_tables : List ℕ → Streams → List ℕ
 up_to_tables bytes streams = take (streams.tables.from + streams.tables.size) bytes
-
--- the metadata that these bytes are, or what is wrong with them first, where these are the tables and their columns
-unfoldable pub metadata_with : List (List Column) → List ℕ → Result Contents MetaFault
-metadata_with tables bytes = do
-  streams ← streams_of bytes
-  placed ← tables_of tables (up_to_tables bytes streams) streams.tables.from
-  Ok (record {
-    strings = heap_of bytes streams.strings;
-    user_strings = heap_of bytes streams.user_strings;
-    blobs = heap_of bytes streams.blobs;
-    stream = up_to_tables bytes streams;
-    tables = placed;
-  })
-
--- the metadata that these bytes are, or what is wrong with them first
-abbrev pub metadata_of : List ℕ → Result Contents MetaFault
-metadata_of bytes = metadata_with TABLES bytes
 
 -- ---- rows
 
@@ -97,7 +75,7 @@ abbrev pub coded_with : Targets → ℕ → Option Token
 coded_with targets cell = token_of (slice_index_or targets.tables (cell % 2 ^ targets.bits) None) (cell / 2 ^ targets.bits)
 
 abbrev pub coded_of : Coded → ℕ → Option Token
-coded_of kind cell = coded_with (targets_of kind) cell
+coded_of kind cell = coded_with (standard_targets kind) cell
 
 -- ---- heaps
 

@@ -8,9 +8,8 @@ use Rattle.cli_metadata.specs.declared.tables.Column.{Column}
 use Rattle.cli_metadata.specs.declared.tables.Column.TheVariants.{Absent, Number1, Number2, Number4, Strings, Guid, Blob, Row, Coded}
 use Rattle.cli_metadata.specs.declared.coded_index.Coded.{Coded as Kind}
 use Rattle.cli_metadata.specs.declared.coded_index.Coded.TheVariants.{TypeDefOrRef, HasConstant, HasCustomAttribute, HasFieldMarshal, HasDeclSecurity, MemberRefParent, HasSemantics, MethodDefOrRef, MemberForwarded, Implementation, CustomAttributeType, ResolutionScope, TypeOrMethodDef}
-use Rattle.cli_metadata.specs.declared.tables.TheConstants.{TABLES}
+use Rattle.cli_metadata.specs.declared.coded_index.Targets.{Targets}
 use Rattle.cli_metadata.specs.Numbers.{number_of}
-use Rattle.cli_metadata.specs.Tables.{targets_of}
 
 -- a table and its columns
 pub record Line : Type 0 where
@@ -71,10 +70,6 @@ nine columns = columns ++ replicate (9 - length columns) Absent
 abbrev pub standard_columns : ℕ → List Column
 standard_columns n = nine (option_map_or (λ t. t.columns) (find (λ t. number_of t.table == n) standard_tables) [])
 
--- the tables of the crate are those of the standard, by number
-abbrev pub TablesAreTheStandards : Type 0
-TablesAreTheStandards = TABLES ≡ map standard_columns (range_with_len 0 45)
-
 -- a table that a coded index may name, with its tag
 pub record Tagged : Type 0 where
   pub tag : ℕ
@@ -119,6 +114,6 @@ standard_tags TypeOrMethodDef = tagged 1 MethodDef ∷ tagged 0 TypeDef ∷ []
 abbrev pub standard_target : Kind → ℕ → Option Table
 standard_target kind tag = option_map (λ t. t.table) (find (λ t. t.tag == tag) (standard_tags kind))
 
--- the coded indices of the crate are those of the standard
-abbrev pub CodedAreTheStandards : Type 0
-CodedAreTheStandards = (kind : Kind) → targets_of kind ≡ record { bits = standard_bits kind; tables = map (standard_target kind) (range_with_len 0 22) }
+-- a coded index: how many bits its tag has, and the tables by their tags
+abbrev pub standard_targets : Kind → Targets
+standard_targets kind = record { bits = standard_bits kind; tables = map (standard_target kind) (range_with_len 0 22) }

@@ -8,7 +8,7 @@ use Rattle.cli_metadata.specs.declared.coded_index.Targets.{Targets}
 use Rattle.cli_metadata.specs.declared.widths.Width.{Width}
 use Rattle.cli_metadata.specs.declared.widths.Width.TheVariants.{Zero, One, Two, Four}
 use Rattle.cli_metadata.specs.Numbers.{number_of}
-use Rattle.cli_metadata.specs.Tables.{targets_of}
+use Rattle.cli_metadata.specs.Standard.{standard_targets}
 
 abbrev pub bytes_in : Width → ℕ
 bytes_in Zero = 0
@@ -44,7 +44,7 @@ width_of sizes counts Strings = heap_width sizes 0x01
 width_of sizes counts Guid = heap_width sizes 0x02
 width_of sizes counts Blob = heap_width sizes 0x04
 width_of sizes counts (Row table) = index_width (has_fewer counts (2 ^ 16) (Some table))
-width_of sizes counts (Coded kind) = index_width (fits_two counts (targets_of kind))
+width_of sizes counts (Coded kind) = index_width (fits_two counts (standard_targets kind))
 
 -- the bytes of a row with these cells
 abbrev pub row_width : List Width → ℕ

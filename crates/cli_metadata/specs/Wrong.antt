@@ -1,19 +1,15 @@
 -- What is wrong with bytes that aren't metadata, in the standard's words (ECMA-335 II.24.2.1, II.24.2.2, II.24.2.6): what
 -- should stand next to what stands doesn't. Places count from the root's first byte.
-use Rattle.std.specs.Prelude.{◌≡◌, ◌≤◌, ◌<◌, ◌⊎◌, ℕ, ◌+◌, ◌*◌, List, [], ◌∷◌, ◌++◌, length, Option, None, Some, Err, IsTrue, All, Contains, slice_index, slice_index_or, map, codes, false}
-use Rattle.cli_metadata.specs.declared.fault.MetaFault.{MetaFault}
+use Rattle.std.specs.Prelude.{◌≡◌, ◌≤◌, ◌<◌, ◌⊎◌, ℕ, ◌+◌, ◌*◌, List, [], ◌∷◌, ◌++◌, length, None, Some, IsTrue, All, Contains, slice_index, slice_index_or, map, codes, false}
 use Rattle.cli_metadata.specs.declared.fault.MetaCause.{MetaCause}
 use Rattle.cli_metadata.specs.declared.fault.MetaCause.TheVariants.{BadRoot, BadStream, BadHeader, UnknownTable, Truncated}
 use Rattle.cli_metadata.specs.declared.tables.Column.{Column}
 use Rattle.cli_metadata.specs.declared.root.Stream.{Stream}
 use Rattle.cli_metadata.specs.declared.root.Streams.{Streams}
 use Rattle.cli_metadata.specs.declared.layout.Placed.{Placed}
-use Rattle.cli_metadata.specs.Root.{Header}
 use Rattle.cli_metadata.specs.Widths.{width_of, row_width}
-use Rattle.cli_metadata.specs.Layout.{is_table}
-use Rattle.cli_metadata.specs.Laws.{AreConsecutive}
-use Rattle.cli_metadata.specs.Metadata.{up_to_tables, metadata_of}
-use Rattle.cli_metadata.specs.Standing.{IsNumber, IsRoot, IsName, AreHeaders, IsFirst, IsFirstNamed, AreStreams, bit, tables_below, IsRowCount, rows_by_number, tables_by_number}
+use Rattle.cli_metadata.specs.Metadata.{up_to_tables}
+use Rattle.cli_metadata.specs.Standing.{Header, is_table, AreConsecutive, IsNumber, IsRoot, IsName, AreHeaders, IsFirst, IsFirstNamed, AreStreams, bit, tables_below, IsRowCount, rows_by_number, tables_by_number}
 
 -- ---- fields
 
@@ -202,11 +198,3 @@ IsWrong bytes place BadHeader = InTables bytes (λ stream at. IsHeaderWrong stre
 IsWrong bytes place UnknownTable = InTables bytes (λ stream at. IsTableUnknown tables_by_number stream at place)
 IsWrong bytes place Truncated = InTables bytes (λ stream at. IsCut tables_by_number stream at place)
 IsWrong bytes place _ = ⊥
-
--- a fault that is met is one that these bytes have
-abbrev pub FaultIsWrong : Type 0
-FaultIsWrong = (bytes : List ℕ) (f : MetaFault) → metadata_of bytes ≡ Err f → IsWrong bytes f.place f.cause
-
--- a fault that these bytes have is the one that is met
-abbrev pub WrongIsFault : Type 0
-WrongIsFault = (bytes : List ℕ) (f : MetaFault) → IsWrong bytes f.place f.cause → metadata_of bytes ≡ Err f

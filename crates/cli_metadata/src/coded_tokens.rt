@@ -24,6 +24,7 @@ impl CodedIndex {
 
 /// The token that a coded index means. None where no table has its tag, or its row is above 2^24 - 1. Row 0, which is no
 /// row, is handed on. Takes no memory.
+#[tactic(auto, using(crate::proofs::Standard::coded_are))]
 pub fn coded(kind: Coded, cell: u32) -> Option<Token>
     ensures { result ≡ coded_of kind cell }
 {

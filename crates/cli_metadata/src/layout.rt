@@ -3,7 +3,8 @@
 ghost use Rattle.std.specs.Prelude.{◌≡◌, ◌≤◌, ◌<◌, ◌+◌, ◌*◌, ◌^◌, length, IfOk, OnOk};
 ghost use Rattle.cli_metadata.specs.Reading.{Gives};
 ghost use Rattle.cli_metadata.specs.Widths.{row_width};
-ghost use Rattle.cli_metadata.specs.Layout.{is_table, are_tables, versioned_at, prefix_at, count_at, counts_at, table_at, tables_at, tables_of, ArePlaced};
+ghost use Rattle.cli_metadata.specs.Standing.{is_table, ArePlaced};
+ghost use Rattle.cli_metadata.specs.Layout.{are_tables, versioned_at, prefix_at, count_at, counts_at, table_at, tables_at, tables_of};
 
 use crate::reading::{behind, check, u8_at, u32_at, u64_at};
 use crate::widths::{Width, row_width, widths_of};

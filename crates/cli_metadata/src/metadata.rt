@@ -1,8 +1,10 @@
 // Metadata as a whole.
 
 ghost use Rattle.std.specs.Prelude.{◌≡◌, ◌≤◌, ◌<◌, ◌^◌, length, take, drop, IfOk, IfErr};
-ghost use Rattle.cli_metadata.specs.Root.{IsWithin};
-ghost use Rattle.cli_metadata.specs.Metadata.{metadata_of, heap_of, rows_of, row_of, IsString, IsNoString, IsItem, IsNoItem, IsUserString, IsNoUserString, IsFaultAt};
+ghost use Rattle.cli_metadata.specs.Standing.{IsWithin, IsStanding};
+ghost use Rattle.cli_metadata.specs.Read.{metadata_of};
+ghost use Rattle.cli_metadata.specs.Wrong.{IsWrong};
+ghost use Rattle.cli_metadata.specs.Metadata.{heap_of, rows_of, row_of, IsString, IsNoString, IsItem, IsNoItem, IsUserString, IsNoUserString, IsFaultAt};
 
 use crate::layout::{Placed, tables_of};
 use crate::reading::{front, rest};
@@ -25,7 +27,7 @@ pub struct Metadata<'a> {
 impl<'a> Model for Metadata<'a> {
     ghost use Rattle.std.specs.Prelude.{length};
     ghost use Rattle.cli_metadata.specs.Metadata.{Contents};
-    ghost use Rattle.cli_metadata.specs.Layout.{ArePlaced};
+    ghost use Rattle.cli_metadata.specs.Standing.{ArePlaced};
 
     ghost Value = { Contents };
 
@@ -43,8 +45,17 @@ impl<'a> Model for Metadata<'a> {
 impl<'a> Metadata<'a> {
     /// Reads the metadata that begins with these bytes: its root, its streams, and where its tables stand. No row is read.
     /// What is wrong comes in the order of the causes, and of one cause the least place. Takes no memory.
-    #[tactic(auto, unfolding(crate::specs::Metadata::metadata_with))]
     pub fn of(bytes: &'a [u8]) -> Result<Metadata<'a>, MetaFault>
+        requires { length bytes.now < 2 ^ 32 }
+        ensures read { IfOk result (IsStanding bytes.now) }
+        ensures fault { IfErr result (λ fault. IsWrong bytes.now fault.place fault.cause) }
+    {
+        Metadata::read(bytes)
+    }
+
+    // The same, step by step.
+    #[tactic(auto, unfolding(crate::specs::Read::metadata_with))]
+    fn read(bytes: &'a [u8]) -> Result<Metadata<'a>, MetaFault>
         requires { length bytes.now < 2 ^ 32 }
         ensures { result ≡ metadata_of bytes.now }
     {

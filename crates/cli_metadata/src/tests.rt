@@ -5,7 +5,7 @@ ghost use Rattle.std.specs.Prelude.{◌<◌, ◌^◌, length};
 use crate::widths::{row_width, widths_of};
 use crate::{
     Coded, CodedIndex, MOST_COLUMNS, MetaCause, MetaFault, Metadata, TABLES, Table, TableRow,
-    coded, compressed, rows_are_ranges, tables_are_the_standards,
+    coded, compressed, one_reading, rows_are_whole, tables_are_the_standards,
 };
 use dc_base::Token;
 use std::process::Abort;
@@ -196,7 +196,8 @@ fn coded_indices_name_rows_of_listed_tables(rt: HostRuntime) {
     assert!(rt; coded(Coded::TypeDefOrRef, 0x0400_0000).is_none());
     assert!(rt; compressed(&[0x80, 0x80]) == Some((128, 2)));
     tables_are_the_standards();
-    rows_are_ranges();
+    one_reading();
+    rows_are_whole();
 }
 
 fn refuses<R: Abort>(rt: &R, bytes: &[u8], cause: MetaCause, place: u32)

@@ -71,6 +71,7 @@ fn fits_two(counts: &[u32; TABLE_NUMBERS], targets: Targets) -> bool
 }
 
 // The width of a column's cells, by HeapSizes and the row counts of the tables.
+#[tactic(auto, using(crate::proofs::Standard::coded_are))]
 fn width_of(column: Column, sizes: u8, counts: &[u32; TABLE_NUMBERS]) -> Width
     ensures { result ≡ width_of sizes counts.now column }
 {
