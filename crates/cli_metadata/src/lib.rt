@@ -10,6 +10,8 @@
 //! their tables in `Coded::targets`.
 #![tactic(auto)]
 
+mod coded_index;
+mod coded_tokens;
 mod fault;
 mod heaps;
 mod laws;
@@ -21,12 +23,14 @@ mod row;
 mod tables;
 mod widths;
 
+pub use coded_index::{Coded, Targets};
+pub use coded_tokens::{CodedIndex, coded};
 pub use dc_base::compressed;
 pub use fault::{MetaCause, MetaFault};
-pub use laws::{faults_are_wrongs, reading_is_standing, rows_are_ranges, tables_are_the_standards};
+pub use laws::{one_reading, rows_are_whole, tables_are_the_standards};
 pub use metadata::Metadata;
-pub use row::{Row, coded};
-pub use tables::{Coded, Column, TABLES, Targets};
+pub use row::TableRow;
+pub use tables::{Column, MOST_COLUMNS, TABLE_NUMBERS, TABLES, Table};
 
 #[cfg(test)]
 mod tests;
