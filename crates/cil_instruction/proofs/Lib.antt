@@ -1,0 +1,4 @@
+pub mod Table
+pub mod InstructionFacts
+pub mod Causes
+pub mod Consequences

@@ -1,0 +1,4 @@
+pub mod Opcode
+pub mod Standard
+pub mod Instruction
+pub mod Laws
