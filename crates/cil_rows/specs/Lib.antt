@@ -1,0 +1,4 @@
+pub mod Operand
+pub mod Instruction
+pub mod Flow
+pub mod Slots
