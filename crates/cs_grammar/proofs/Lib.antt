@@ -1,0 +1,6 @@
+pub mod Sets
+pub mod Basics
+pub mod Bind
+pub mod Either
+pub mod Limited
+pub mod Turns
