@@ -4,3 +4,4 @@ pub mod Bind
 pub mod Either
 pub mod Limited
 pub mod Turns
+pub mod Whole

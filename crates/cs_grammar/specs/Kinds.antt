@@ -1,10 +1,10 @@
 -- Kinds of tokens. A grammar tells tokens apart by a number, their kind, and asks whether the next token's is among some.
-use Rattle.std.specs.Prelude.{ℕ, Bool, true, false, not, ◌&&◌, ◌||◌, ◌==◌, List, [], ◌∷◌}
+use Rattle.std.specs.Prelude.{ℕ, Bool, true, false, not, ◌&&◌, ◌==◌, List, [], ◌∷◌}
+use Rattle.std.specs.List.{list_any}
 
 -- the kind is one of these
 abbrev pub has : List ℕ → ℕ → Bool
-has [] k = false
-has (x ∷ xs) k = x == k || has xs k
+has kinds k = list_any (λ x. x == k) kinds
 
 -- the next token has one of these kinds
 abbrev pub begins : {T : Type 0} → (T → ℕ) → List ℕ → List T → Bool

@@ -1,3 +1,5 @@
 pub mod Kinds
 pub mod Grammar
 pub mod Exact
+pub mod Reads
+pub mod Whole

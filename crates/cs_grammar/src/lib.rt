@@ -1,10 +1,12 @@
 //! Grammars over tokens.
 #![tactic(auto)]
 
-ghost use Rattle.std.specs.Prelude.{◌≡◌};
+mod cursor;
+mod fault;
+mod kinded;
+mod reader;
 
-pub fn echo(x: usize) -> usize
-    ensures { result ≡ x }
-{
-    x
-}
+pub use cursor::Cursor;
+pub use fault::Fault;
+pub use kinded::Kinded;
+pub use reader::{begins, expect};
