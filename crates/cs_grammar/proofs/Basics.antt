@@ -56,7 +56,7 @@ exact_gives {T = T} {A = A} {kind = kind} a =
 
 -- one token
 
-read_one-is : {T A : Type 0} (kind : T → ℕ) (kinds : List ℕ) (f : T → A) (t : T) (ts : List T) → has kinds (kind t) ≡ true → read_one kind kinds f (t ∷ ts) ≡ Ok (f t, ts)
+pub read_one-is : {T A : Type 0} (kind : T → ℕ) (kinds : List ℕ) (f : T → A) (t : T) (ts : List T) → has kinds (kind t) ≡ true → read_one kind kinds f (t ∷ ts) ≡ Ok (f t, ts)
 read_one-is kind kinds f t ts h = rw h refl
 
 read_one-not : {T A : Type 0} (kind : T → ℕ) (kinds : List ℕ) (f : T → A) (t : T) (ts : List T) → has kinds (kind t) ≡ false → read_one kind kinds f (t ∷ ts) ≡ Err (false, t ∷ ts)
@@ -93,7 +93,7 @@ one_moves kind kinds f (t ∷ ts) a rest d =
       again = λ other fits. read_one-is kind kinds f t other d.0 ∙ ap (λ c. ok (c, other)) (sym d.1);
     }
 
-one_left : {T A : Type 0} (kind : T → ℕ) (kinds : List ℕ) (f : T → A) (ts : List T) (deep : Bool) (left : List T) → read_one kind kinds f ts ≡ Err (deep, left) → (deep ≡ false) × (left ≡ ts) × (begins kind kinds ts ≡ false)
+pub one_left : {T A : Type 0} (kind : T → ℕ) (kinds : List ℕ) (f : T → A) (ts : List T) (deep : Bool) (left : List T) → read_one kind kinds f ts ≡ Err (deep, left) → (deep ≡ false) × (left ≡ ts) × (begins kind kinds ts ≡ false)
 one_left {A = A} kind kinds f [] deep left e = (sym (err_deep A (false, []) (deep, left) e), sym (err_left A (false, []) (deep, left) e), refl)
 one_left {A = A} kind kinds f (t ∷ ts) deep left e = by_case (has kinds (kind t)) refl
   where

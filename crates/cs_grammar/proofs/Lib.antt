@@ -5,3 +5,4 @@ pub mod Either
 pub mod Limited
 pub mod Turns
 pub mod Whole
+pub mod Deeper

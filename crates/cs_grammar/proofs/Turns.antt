@@ -11,7 +11,7 @@ use Rattle.cs_grammar.proofs.Either.{front_begins, front_begins_not, begins_same
 
 -- one round of the reader, by what it meets
 
-stop : {T A : Type 0} (kind : T → ℕ) (first : List ℕ) (room : A → Bool) (f : A → Grammar T A) (m : ℕ) (a : A) (ts : List T) → begins kind first ts ≡ false → read_rounds kind first room f m a ts ≡ Ok (a, ts)
+pub stop : {T A : Type 0} (kind : T → ℕ) (first : List ℕ) (room : A → Bool) (f : A → Grammar T A) (m : ℕ) (a : A) (ts : List T) → begins kind first ts ≡ false → read_rounds kind first room f m a ts ≡ Ok (a, ts)
 stop kind first room f zero a ts e = refl
 stop kind first room f (suc m) a ts e = rw e refl
 
@@ -23,7 +23,7 @@ no_room : {T A : Type 0} (kind : T → ℕ) (first : List ℕ) (room : A → Boo
 no_room kind first room f zero a ts e r le = absurd (let some = some_left kind first ts e in omega arith)
 no_room kind first room f (suc m) a ts e r le = rw (e, r) refl
 
-round : {T A : Type 0} (kind : T → ℕ) (first : List ℕ) (room : A → Bool) (f : A → Grammar T A) (m : ℕ) (a : A) (ts : List T) → begins kind first ts ≡ true → room a ≡ true → read_rounds kind first room f (suc m) a ts ≡ and_then ((f a).reads ts) (read_rounds kind first room f m)
+pub round : {T A : Type 0} (kind : T → ℕ) (first : List ℕ) (room : A → Bool) (f : A → Grammar T A) (m : ℕ) (a : A) (ts : List T) → begins kind first ts ≡ true → room a ≡ true → read_rounds kind first room f (suc m) a ts ≡ and_then ((f a).reads ts) (read_rounds kind first room f m)
 round kind first room f m a ts e r = rw (e, r) refl
 
 fail_on : {T A : Type 0} (kind : T → ℕ) (first : List ℕ) (room : A → Bool) (f : A → Grammar T A) (m : ℕ) (a : A) (ts : List T) (deep : Bool) (left : List T) → begins kind first ts ≡ true → room a ≡ true → (f a).reads ts ≡ Err (deep, left) → length ts ≤ m → read_rounds kind first room f m a ts ≡ Err (deep, left)
@@ -70,12 +70,12 @@ starts_round kind ys [] vs s = cc
 starts_round kind ys (u ∷ us) vs s = s
 
 -- what the reader does where there is fuel
-data Turn {T A : Type 0} (kind : T → ℕ) (first : List ℕ) (room : A → Bool) (f : A → Grammar T A) (k : ℕ) (a : A) (ts : List T) (r : Read T A) : Type 0 where
+pub data Turn {T A : Type 0} (kind : T → ℕ) (first : List ℕ) (room : A → Bool) (f : A → Grammar T A) (k : ℕ) (a : A) (ts : List T) (r : Read T A) : Type 0 where
   stops : begins kind first ts ≡ false → ok (a, ts) ≡ r → Turn kind first room f k a ts r
   too_deep : begins kind first ts ≡ true → room a ≡ false → err (true, ts) ≡ r → Turn kind first room f k a ts r
   goes : begins kind first ts ≡ true → room a ≡ true → and_then ((f a).reads ts) (read_rounds kind first room f k) ≡ r → Turn kind first room f k a ts r
 
-turn : {T A : Type 0} (kind : T → ℕ) (first : List ℕ) (room : A → Bool) (f : A → Grammar T A) (k : ℕ) (a : A) (ts : List T) (r : Read T A) → read_rounds kind first room f (suc k) a ts ≡ r → Turn kind first room f k a ts r
+pub turn : {T A : Type 0} (kind : T → ℕ) (first : List ℕ) (room : A → Bool) (f : A → Grammar T A) (k : ℕ) (a : A) (ts : List T) (r : Read T A) → read_rounds kind first room f (suc k) a ts ≡ r → Turn kind first room f k a ts r
 turn kind first room f k a ts r e = by_case (begins kind first ts) (room a) refl refl
   where
     by_case : (p q : Bool) → begins kind first ts ≡ p → room a ≡ q → Turn kind first room f k a ts r

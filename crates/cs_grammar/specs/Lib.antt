@@ -3,3 +3,4 @@ pub mod Grammar
 pub mod Exact
 pub mod Reads
 pub mod Whole
+pub mod Levels
