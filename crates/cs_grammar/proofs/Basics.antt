@@ -110,8 +110,8 @@ one_same kind kinds f (t ∷ ts) [] n h = absurd h
 one_same kind kinds f (t ∷ ts) (u ∷ us) n h = read_one-not kind kinds f u us (ap (has kinds) (sym h) ∙ n)
 
 -- a sample token of one of the kinds shows that some list is read
-pub exact_one : {T A : Type 0} {kind : T → ℕ} {kinds : List ℕ} {f : T → A} (sample : T) → has kinds (kind sample) ≡ true → Exact kind (one kind kinds f) kinds [] false
-exact_one {kind = kind} {kinds = kinds} {f = f} sample s =
+pub exact_one : {T A : Type 0} {kind : T → ℕ} (kinds : List ℕ) (f : T → A) (sample : T) → has kinds (kind sample) ≡ true → Exact kind (one kind kinds f) kinds [] false
+exact_one {kind = kind} kinds f sample s =
     record {
       sound = one_sound kind kinds f;
       again = λ ts a rest d n. one_again kind kinds f ts a rest d;

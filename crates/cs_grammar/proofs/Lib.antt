@@ -6,3 +6,4 @@ pub mod Limited
 pub mod Turns
 pub mod Whole
 pub mod Deeper
+pub mod Differences

@@ -42,6 +42,10 @@ bind g f =
       reads = λ ts. and_then (g.reads ts) (λ a mid. (f a).reads mid);
     }
 
+-- the same, for `do`
+abbrev pub ◌>>=◌ : {T A B : Type 0} → Grammar T A → (A → Grammar T B) → Grammar T B
+◌>>=◌ g f = bind g f
+
 -- one or the other: `g`, which begins with one of the kinds `first`, or `h`
 abbrev pub either : {T A : Type 0} → (T → ℕ) → List ℕ → Grammar T A → Grammar T A → Grammar T A
 either kind first g h =

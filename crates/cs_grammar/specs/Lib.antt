@@ -4,3 +4,4 @@ pub mod Exact
 pub mod Reads
 pub mod Whole
 pub mod Levels
+pub mod Differences

@@ -2,6 +2,7 @@
 #![tactic(auto)]
 
 mod cursor;
+pub mod example;
 mod fault;
 mod kinded;
 mod reader;
