@@ -1,9 +1,9 @@
 -- What each instruction does, by its mnemonic (ECMA-335 III.3 and III.4).
 use Rattle.std.specs.Prelude.{ℕ, Bool, true, false, ℤ, pos, negsuc, List}
 use Rattle.dc_base.specs.declared.ty.Prim_.TheVariants.{I1, U1, I2, U2, I4, U4, I8, U8}
-use Rattle.cil_body.specs.declared.opcode.Op.{Op}
-use Rattle.cil_body.specs.declared.opcode.Op.TheVariants as op
-use Rattle.cil_body.specs.declared.body.Instr.{Instr}
+use Rattle.cil_instruction.specs.declared.opcode.Op.{Op}
+use Rattle.cil_instruction.specs.declared.opcode.Op.TheVariants as op
+use Rattle.cil_instruction.specs.declared.instruction.Instr.{Instr}
 use Rattle.cil_rows.specs.declared.row.Row.{Row}
 use Rattle.cil_rows.specs.declared.row.Row.TheVariants as row
 use Rattle.cil_rows.specs.declared.row.Access.TheVariants.{Number, Reference, Typed}

@@ -2,3 +2,4 @@ pub mod Operand
 pub mod Instruction
 pub mod Flow
 pub mod Slots
+pub mod Code

@@ -7,7 +7,7 @@ ghost use Rattle.cil_rows.specs.Instruction.{row_of};
 ghost use Rattle.cil_rows.specs.Operand.{number_of, int_of, token_of, aim_of};
 
 use crate::row::{Access, BitOperator, Operator, Row, ShiftOperator, Test, UnaryOperator};
-use cil_body::{Instr, Op};
+use cil_instruction::{Instr, Op};
 use dc_base::{Prim_, Seq, Token};
 
 /// What an instruction does. Its aims are the targets as they stand in it. An operand that is no number of the row's is

@@ -10,10 +10,12 @@
 //! some 50 cases and not one for each of the 173 mnemonics.
 #![tactic(auto)]
 
+mod code;
 mod flow;
 mod instruction;
 mod row;
 mod slots;
 
+pub use code::{numbers_are_places, rows_of};
 pub use instruction::row_of;
 pub use row::{Access, BitOperator, Operator, Row, ShiftOperator, Test, UnaryOperator};
