@@ -40,8 +40,8 @@ rounds_within {T = T} {A = A} kind first room f y (suc k) a ts =
 
 -- what a next token enters
 
-pub enters_one : {T A : Type 0} {kind : T → ℕ} {kinds : List ℕ} {f : T → A} → Enters kind kinds (one kind kinds f)
-enters_one {T = T} {A = A} {kind = kind} {kinds = kinds} {f = f} = record { enters = enters }
+pub enters_one : {T A : Type 0} {kind : T → ℕ} (kinds : List ℕ) (f : T → A) → Enters kind kinds (one kind kinds f)
+enters_one {T = T} {A = A} {kind = kind} kinds f = record { enters = enters }
   where
     enters : (ts : List T) → begins kind kinds ts ≡ true → left_of (read_one kind kinds f ts) < length ts
     enters [] e = cc

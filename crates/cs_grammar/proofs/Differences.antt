@@ -3,8 +3,9 @@ use Rattle.std.proofs.Common.{◌≡◌, ℕ, zero, suc, Bool, true, false, List
 use Rattle.cs_grammar.specs.declared.example.Token.{Token}
 use Rattle.cs_grammar.specs.declared.example.Token.TheVariants as token
 use Rattle.cs_grammar.specs.declared.example.Form.{Form}
+use Rattle.cs_grammar.specs.declared.example.Form.TheVariants.{Difference, Cast}
 use Rattle.cs_grammar.specs.Kinds.{has}
-use Rattle.cs_grammar.specs.Grammar.{Grammar, gives, one, bind, either, limited, choice, turns}
+use Rattle.cs_grammar.specs.Grammar.{Grammar, gives, one, ◌>>=◌, either, limited, choice, turns}
 use Rattle.cs_grammar.specs.Exact.{Exact}
 use Rattle.cs_grammar.specs.Whole.{Deeper}
 use Rattle.cs_grammar.specs.Levels.{Yields, Enters}
@@ -14,6 +15,7 @@ use Rattle.cs_grammar.proofs.Bind.{then}
 use Rattle.cs_grammar.proofs.Either.{or}
 use Rattle.cs_grammar.proofs.Limited.{within, choose}
 use Rattle.cs_grammar.proofs.Turns.{repeat}
+use Rattle.cs_grammar.proofs.Deeper.{yields_any, enters_one, enters_then, deeper_gives, deeper_one, deeper_then, deeper_or, deeper_limit, deeper_choose, deeper_turns}
 
 -- the kinds at which a difference would go on
 abbrev difference_follow : List ℕ
@@ -44,3 +46,68 @@ exact_parenthesized o =
 pub exact_operand : (depth : ℕ) → Exact kind_of (operand_at depth) operand_kinds operand_kinds false
 exact_operand zero = wider refl refl (within (bracket ∷ []) refl exact_leaf)
 exact_operand (suc depth) = wider refl refl (or (bracket ∷ []) refl refl (exact_parenthesized (exact_operand depth)) exact_leaf)
+
+pub exact_difference_at : (depth : ℕ) → Exact kind_of (difference_at depth) operand_kinds difference_follow false
+exact_difference_at depth = exact_difference (exact_operand depth)
+
+-- a level more reads no less
+
+deeper_leaf : Deeper leaf leaf
+deeper_leaf = deeper_one kind_of (name ∷ number ∷ []) form_of
+
+deeper_sign : (kind : ℕ) → Deeper (sign kind) (sign kind)
+deeper_sign kind = deeper_one kind_of (kind ∷ []) (λ _. tt)
+
+-- what may stand behind an operand, where nothing is asked of its value
+exact_after_minus : {operand : Grammar Token Form} (left : Form) → Exact kind_of operand operand_kinds operand_kinds false → Exact kind_of (do right ← operand; gives (Difference left right)) operand_kinds operand_kinds false
+exact_after_minus left o = wider refl refl (then o refl (λ _. exact_gives _))
+
+deeper_minus_one : {operand wide : Grammar Token Form} (left : Form) → Exact kind_of wide operand_kinds operand_kinds false → Deeper operand wide → Deeper (minus_one operand left) (minus_one wide left)
+deeper_minus_one {operand = operand} left x d =
+    deeper_then (deeper_sign minus) (yields_any (sign minus))
+    (λ _ _. deeper_then d (yields_any operand) (λ right _. deeper_gives (Difference left right)) (λ right. exact_gives {kind = kind_of} (Difference left right)))
+    (λ _. exact_after_minus left x)
+
+enters_minus_one : {operand : Grammar Token Form} (left : Form) → Exact kind_of operand operand_kinds operand_kinds false → Enters kind_of (minus ∷ []) (minus_one operand left)
+enters_minus_one left x = enters_then (enters_one (minus ∷ []) (λ _. tt)) (λ _. exact_after_minus left x)
+
+deeper_difference : {operand wide : Grammar Token Form} → Exact kind_of wide operand_kinds operand_kinds false → Deeper operand wide → Deeper (difference_of operand) (difference_of wide)
+deeper_difference {operand = operand} {wide = wide} x d =
+    deeper_then d (yields_any operand)
+    (λ first _.
+      deeper_turns {P = λ _. Unit {0}} {f = minus_one operand} (minus ∷ []) (λ _. true) (λ _. true) first tt (λ _ _. refl) (λ left _ _. yields_any (minus_one operand left))
+      (λ left _. deeper_minus_one left x d) (λ left. enters_minus_one left x) (λ left. exact_minus_one left x))
+    (λ first. repeat (minus ∷ []) (λ _. true) first refl refl (λ left. exact_minus_one left x))
+
+exact_closed : {operand : Grammar Token Form} (inner : Form) → Exact kind_of operand operand_kinds operand_kinds false → Exact kind_of (do _ ← sign unbracket; choice kind_of (is_some (name_of inner)) operand_kinds (casting operand (unwrap_or (name_of inner) 0)) (gives inner)) (unbracket ∷ []) operand_kinds false
+exact_closed inner o =
+    wider refl refl (then (exact_sign unbracket token.Close refl) refl (λ _. choose operand_kinds (is_some (name_of inner)) refl refl (exact_casting (unwrap_or (name_of inner) 0) o) (exact_gives inner)))
+
+deeper_casting : {operand wide : Grammar Token Form} (n : ℕ) → Deeper operand wide → Deeper (casting operand n) (casting wide n)
+deeper_casting {operand = operand} n d = deeper_then d (yields_any operand) (λ a _. deeper_gives (Cast n a)) (λ a. exact_gives {kind = kind_of} (Cast n a))
+
+deeper_closed : {operand wide : Grammar Token Form} (inner : Form) → Exact kind_of wide operand_kinds operand_kinds false → Deeper operand wide → Deeper (do _ ← sign unbracket; choice kind_of (is_some (name_of inner)) operand_kinds (casting operand (unwrap_or (name_of inner) 0)) (gives inner)) (do _ ← sign unbracket; choice kind_of (is_some (name_of inner)) operand_kinds (casting wide (unwrap_or (name_of inner) 0)) (gives inner))
+deeper_closed inner x d =
+    deeper_then (deeper_sign unbracket) (yields_any (sign unbracket))
+    (λ _ _. deeper_choose kind_of operand_kinds (is_some (name_of inner)) (deeper_casting (unwrap_or (name_of inner) 0) d) (deeper_gives inner))
+    (λ _. choose operand_kinds (is_some (name_of inner)) refl refl (exact_casting (unwrap_or (name_of inner) 0) x) (exact_gives inner))
+
+-- what stands behind an opening parenthesis
+exact_inside : {operand : Grammar Token Form} → Exact kind_of operand operand_kinds operand_kinds false → Exact kind_of (do inner ← difference_of operand; _ ← sign unbracket; choice kind_of (is_some (name_of inner)) operand_kinds (casting operand (unwrap_or (name_of inner) 0)) (gives inner)) operand_kinds operand_kinds false
+exact_inside x = wider refl refl (then (exact_difference x) refl (λ inner. exact_closed inner x))
+
+enters_parenthesized : {operand : Grammar Token Form} → Exact kind_of operand operand_kinds operand_kinds false → Enters kind_of (bracket ∷ []) (parenthesized operand)
+enters_parenthesized x = enters_then (enters_one (bracket ∷ []) (λ _. tt)) (λ _. exact_inside x)
+
+deeper_parenthesized : {operand wide : Grammar Token Form} → Exact kind_of wide operand_kinds operand_kinds false → Deeper operand wide → Deeper (parenthesized operand) (parenthesized wide)
+deeper_parenthesized {operand = operand} x d =
+    deeper_then (deeper_sign bracket) (yields_any (sign bracket))
+    (λ _ _. deeper_then (deeper_difference x d) (yields_any (difference_of operand)) (λ inner _. deeper_closed inner x d) (λ inner. exact_closed inner x))
+    (λ _. exact_inside x)
+
+pub deeper_operand : (depth : ℕ) → Deeper (operand_at depth) (operand_at (suc depth))
+deeper_operand zero = deeper_limit (bracket ∷ []) (enters_parenthesized (exact_operand zero)) deeper_leaf
+deeper_operand (suc depth) = deeper_or kind_of (bracket ∷ []) (deeper_parenthesized (exact_operand (suc depth)) (deeper_operand depth)) deeper_leaf
+
+pub deeper_difference_at : (depth : ℕ) → Deeper (difference_at depth) (difference_at (suc depth))
+deeper_difference_at depth = deeper_difference (exact_operand (suc depth)) (deeper_operand depth)

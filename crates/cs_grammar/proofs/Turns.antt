@@ -1,5 +1,5 @@
 -- Some number of rounds.
-use Rattle.std.proofs.Common.{◌≡◌, ◌⊎◌, inl, inr, ℕ, zero, suc, ◌+◌, ◌<◌, ◌≤◌, Bool, true, false, cond, List, [], ◌∷◌, ◌++◌, length, refl, sym, ◌∙◌, ap, subst, Result, Ok, Err, arith}
+use Rattle.std.proofs.Common.{◌≡◌, ◌⊎◌, inl, inr, ℕ, zero, suc, ◌+◌, ◌-◌, ◌<◌, ◌≤◌, Bool, true, false, cond, List, [], ◌∷◌, ◌++◌, length, refl, sym, ◌∙◌, ap, subst, Result, Ok, Err, arith}
 use Rattle.std.proofs.lemmas.List.{append-nil, append_assoc, length-append}
 use Rattle.cs_grammar.specs.Kinds.{has, begins, disjoint, subset}
 use Rattle.cs_grammar.specs.Grammar.{Read, Grammar, and_then, Rounds, read_rounds, turns}
@@ -270,3 +270,10 @@ repeat {kind = kind} {f = f} {ys = ys} {w = w} first room a s d y =
         };
       lives = record { text = []; value = a; whole = refl };
     }
+
+-- a reader's loop over the tokens that were left, one round on
+pub round_on : {T A : Type 0} (kind : T → ℕ) (first : List ℕ) (room : A → Bool) (f : A → Grammar T A) (end counter : ℕ) (a b : A) (ts mid : List T) → counter < end → begins kind first ts ≡ true → room a ≡ true → (f a).reads ts ≡ Ok (b, mid) → read_rounds kind first room f (end - counter) a ts ≡ read_rounds kind first room f (end - (counter + 1)) b mid
+round_on kind first room f end counter a b ts mid lt e r h =
+    let fuel : end - counter ≡ suc (end - (counter + 1)) = omega arith in
+    ap (λ k. read_rounds kind first room f k a ts) fuel
+    ∙ (round kind first room f (end - (counter + 1)) a ts e r ∙ and_then-ok ((f a).reads ts) b mid (read_rounds kind first room f (end - (counter + 1))) h)

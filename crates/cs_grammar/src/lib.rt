@@ -10,4 +10,4 @@ mod reader;
 pub use cursor::Cursor;
 pub use fault::Fault;
 pub use kinded::Kinded;
-pub use reader::{begins, expect};
+pub use reader::{begins, expect, limit, take_one};

@@ -1,6 +1,6 @@
 // The readers that those of the productions call.
 
-ghost use Rattle.std.specs.Prelude.{◌≡◌, [], ◌∷◌, MatchResult, if◌then◌else◌};
+ghost use Rattle.std.specs.Prelude.{◌≡◌, true, false, [], ◌∷◌, MatchResult, Ok, Err};
 ghost use Rattle.cs_grammar.specs.Kinds.{begins as begins_of, has as has_of};
 ghost use Rattle.cs_grammar.specs.Grammar.{one};
 ghost use Rattle.cs_grammar.specs.Reads.{Finds};
@@ -27,10 +27,32 @@ pub fn begins<T: Kinded>(tokens: &Cursor<T>, kinds: &[u16]) -> bool
 pub fn expect<T: Kinded>(tokens: &mut Cursor<T>, kind: u16) -> Result<(), Fault>
     ensures { Finds ((one T.kind_of (kind ∷ []) (λ _. tt)).reads tokens.old) result tokens.new }
 {
-    if begins(tokens, &[kind]) {
-        let _taken = tokens.advance();
-        Ok(())
-    } else {
-        Err(Fault::Unexpected)
+    take_one(tokens, &[kind])?;
+    Ok(())
+}
+
+/// Takes one token, of one of these kinds.
+pub fn take_one<'a, T: Kinded>(tokens: &mut Cursor<'a, T>, kinds: &[u16]) -> Result<&'a T, Fault>
+    ensures {
+        let read = (one T.kind_of kinds.now (λ t. t)).reads tokens.old in
+        MatchResult result (λ taken. read ≡ Ok (taken.now, tokens.new)) (λ fault. (fault ≡ Fault.Unexpected) × (read ≡ Err (false, tokens.new)))
     }
+{
+    if !begins(tokens, kinds) {
+        return Err(Fault::Unexpected);
+    }
+    match tokens.advance() {
+        Some(taken) => Ok(taken),
+        None => Err(Fault::Unexpected),
+    }
+}
+
+/// Refuses a next token of one of these kinds as too deep.
+pub fn limit<T: Kinded>(tokens: &Cursor<T>, kinds: &[u16]) -> Result<(), Fault>
+    ensures { MatchResult result (λ _. begins_of T.kind_of kinds.now tokens.now ≡ false) (λ fault. (fault ≡ Fault.TooDeep) × (begins_of T.kind_of kinds.now tokens.now ≡ true)) }
+{
+    if begins(tokens, kinds) {
+        return Err(Fault::TooDeep);
+    }
+    Ok(())
 }
