@@ -1,0 +1,7 @@
+//! The rows of a class table: types and members, by their numbers, and what it means that they make one
+//! (ECMA-335 II.8, II.10).
+#![tactic(auto)]
+
+mod row;
+
+pub use row::{Access, Kind, Literal, MemberKind, MemberRow, Param, TypeRow, Virt, Way};
