@@ -1,0 +1,5 @@
+pub mod First
+pub mod SameLists
+pub mod Single
+pub mod Exact
+pub mod Order
