@@ -2,6 +2,8 @@
 //! (ECMA-335 II.8, II.10).
 #![tactic(auto)]
 
+mod fault;
 mod row;
 
-pub use row::{Access, Kind, Literal, MemberKind, MemberRow, Param, TypeRow, Virt, Way};
+pub use fault::TableFault;
+pub use row::{Access, Kind, Literal, MemberKind, MemberRow, Param, Sort, TypeRow, Virt, Way};

@@ -1,6 +1,9 @@
 // The rows of the two lists that a class table is made of.
 
-use dc_base::{Prim_, Seq, Text, Ty, TypeId};
+ghost use Rattle.std.specs.Prelude.{◌≡◌};
+ghost use Rattle.class_rows.specs.Members.{sort_of};
+
+use dc_base::{Prim_, Seq, Text, Text16, Ty, TypeId};
 
 /// What a type is (ECMA-335 I.8.5, II.10): an enum has the primitive type of its values, and an opaque
 /// type is a value type of which nothing but its members is known.
@@ -48,7 +51,7 @@ pub struct TypeRow {
 #[derive(Debug, Drop)]
 pub enum Literal {
     Number(i128),
-    Text(Seq<u16>),
+    Text(Text16),
     NullText,
 }
 
@@ -65,6 +68,34 @@ pub enum MemberKind {
     Setter,
     Indexer,
     Operator,
+}
+
+/// What kind of member it is, apart from what a field holds.
+#[derive(Clone, Copy, Debug, PartialEq, Eq, PartialOrd, Ord, Hash)]
+pub enum Sort {
+    Field,
+    Method,
+    Constructor,
+    Getter,
+    Setter,
+    Indexer,
+    Operator,
+}
+
+impl MemberKind {
+    pub fn sort(&self) -> Sort
+        ensures { result ≡ sort_of self.now }
+    {
+        match self {
+            MemberKind::Field { .. } => Sort::Field,
+            MemberKind::Method => Sort::Method,
+            MemberKind::Constructor => Sort::Constructor,
+            MemberKind::Getter => Sort::Getter,
+            MemberKind::Setter => Sort::Setter,
+            MemberKind::Indexer => Sort::Indexer,
+            MemberKind::Operator => Sort::Operator,
+        }
+    }
 }
 
 /// Whether a method has a slot (ECMA-335 II.10.3): it introduces one, with a body or without, or takes one over.
