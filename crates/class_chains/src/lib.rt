@@ -1,4 +1,5 @@
-//! Chains of numbers, as the types above a type are: which of them end.
+//! Chains of numbers, as the types above a type are: which of them end, and in which order a number stands behind
+//! all those above it.
 //!
 //! ```text
 //! ways:  0 ─ 1 ─ 3        4 ─ 5
@@ -8,4 +9,4 @@
 
 mod walk;
 
-pub use walk::first_open;
+pub use walk::above_first;
