@@ -17,5 +17,5 @@ mod tests;
 
 pub use fault::{BodyCause, BodyFault};
 pub use instruction::{Found, Instr, Simple, entry, first, next, number};
-pub use laws::{one_instruction, table_is_the_standards};
+pub use laws::{left_out_is_the_standards, one_instruction, table_is_the_standards};
 pub use opcode::{LEFT_OUT, Op, Operand, TABLE};

@@ -1,7 +1,8 @@
 -- The laws of this crate, for the proofs of the crates above.
-use Rattle.cil_lone.specs.Laws.{HasOneCode, HasNoFault, HasOneFault, CodeWalks, OperandsFit, CodeIsConsecutive, PlacesAreWithin, InstructionsHaveBytes}
+use Rattle.cil_lone.specs.Laws.{HasOneCode, HasNoFault, HasOneFault, CodeWalks, OperandsFit, CodeIsConsecutive, PlacesAreWithin, InstructionsHaveBytes, IsOfAllBodies, IsOfLoneBodies}
 use Rattle.cil_lone.proofs.Cut.{size_of-positive}
 use Rattle.cil_lone.proofs.Reading.{one_code, no_fault, one_fault, IsLone-consecutive}
+use Rattle.cil_lone.proofs.SameCut.{stands_in_all, stands_in_lone}
 use Rattle.cil_lone.proofs.Above.{IsLone-walks, IsLone-operand, IsLone-place}
 
 pub has_one_code : HasOneCode
@@ -27,3 +28,9 @@ places_are_within = IsLone-place
 
 pub instructions_have_bytes : InstructionsHaveBytes
 instructions_have_bytes = size_of-positive
+
+pub of_all_bodies : IsOfAllBodies
+of_all_bodies = stands_in_all
+
+pub of_lone_bodies : IsOfLoneBodies
+of_lone_bodies = stands_in_lone

@@ -47,7 +47,7 @@ number_of-fits Target8 size bytes h = cc
 number_of-fits Target32 size bytes h = cc
 number_of-fits Switch size bytes h = cc
 
-operand_len-fits : (operand : Operand) (size : ℕ) → operand_fits operand size ≡ true → size ≡ 1 + operand_len operand
+pub operand_len-fits : (operand : Operand) (size : ℕ) → operand_fits operand size ≡ true → size ≡ 1 + operand_len operand
 operand_len-fits Absent size h = grind arith
 operand_len-fits Var8 size h = cc
 operand_len-fits Var16 size h = cc
@@ -70,7 +70,7 @@ pub record Stood (bytes : List ℕ) (i : Simple) : Type 0 where
   pub fits : FitsSigned w32 i.arg
   pub taken : IsTaken (row_of i.op)
 
-when_ok : (a b : ℕ) (x i : Simple) → cond {A = Result Simple Stop} (ltb a b) (Err Truncated) (Ok x) ≡ Ok i → (b ≤ a) × (x ≡ i)
+pub when_ok : (a b : ℕ) (x i : Simple) → cond {A = Result Simple Stop} (ltb a b) (Err Truncated) (Ok x) ≡ Ok i → (b ≤ a) × (x ≡ i)
 when_ok a b x i h = grind arith
 
 Stood-operand : (b : ℕ) (e : Line) (bytes : List ℕ) (i : Simple) → operand_fits e.2 (size_of e.1) ≡ true → IsTaken (row_of e.1) → with_operand e bytes ≡ Ok i → Stood (b ∷ bytes) i
@@ -82,7 +82,7 @@ Stood-operand b e bytes i f t h =
     let here : Stood (b ∷ bytes) x = record { within = le; fits = number_of-fits e.2 (size_of e.1) bytes f; taken = t } in
     subst (λ (j : Simple). Stood (b ∷ bytes) j) w.1 here
 
-row_taken : (r : Row) (code : ℕ) (e : Line) (bytes : List ℕ) (i : Simple) → row_fits r e ≡ true → with_row code r e bytes ≡ Ok i → (operand_fits e.2 (size_of e.1) ≡ true) × IsTaken r × (with_operand e bytes ≡ Ok i)
+pub row_taken : (r : Row) (code : ℕ) (e : Line) (bytes : List ℕ) (i : Simple) → row_fits r e ≡ true → with_row code r e bytes ≡ Ok i → (operand_fits e.2 (size_of e.1) ≡ true) × IsTaken r × (with_operand e bytes ≡ Ok i)
 row_taken (Load s) code e bytes i f h = (f, tt, h)
 row_taken (Binary t) code e bytes i f h = (f, tt, h)
 row_taken Return code e bytes i f h = (f, tt, h)
@@ -103,7 +103,7 @@ lone_at-line : (bytes : List ℕ) (e : Line) → 0 < length bytes → entry_of (
 lone_at-line [] e l h = absurd (omega arith)
 lone_at-line (b ∷ bytes) e l h = ap (λ (line : Option Line). with_line b line bytes) h
 
-with_row-operand : (r : Row) (code : ℕ) (e : Line) (bytes : List ℕ) → (r ≡ Beyond → ⊥) → with_row code r e bytes ≡ with_operand e bytes
+pub with_row-operand : (r : Row) (code : ℕ) (e : Line) (bytes : List ℕ) → (r ≡ Beyond → ⊥) → with_row code r e bytes ≡ with_operand e bytes
 with_row-operand (Load s) code e bytes h = refl
 with_row-operand (Binary t) code e bytes h = refl
 with_row-operand Return code e bytes h = refl
@@ -112,7 +112,7 @@ with_row-operand Beyond code e bytes h = absurd (h refl)
 when_short : (a b : ℕ) (x : Simple) → a < b → cond {A = Result Simple Stop} (ltb a b) (Err Truncated) (Ok x) ≡ Err Truncated
 when_short a b x h = grind arith
 
-when_long : (a b : ℕ) (x : Simple) → b ≤ a → cond {A = Result Simple Stop} (ltb a b) (Err Truncated) (Ok x) ≡ Ok x
+pub when_long : (a b : ℕ) (x : Simple) → b ≤ a → cond {A = Result Simple Stop} (ltb a b) (Err Truncated) (Ok x) ≡ Ok x
 when_long a b x h = grind arith
 
 module _ (bytes : List ℕ) (code : ℕ) (e : Line) (r : Row) (len : ℕ) (some : 0 < length bytes) (is_code : code ≡ get_or bytes 0 0) (is_line : Some e ≡ entry_of code) (is_row : r ≡ row_of e.1) (taken : r ≡ Beyond → ⊥) (is_len : len ≡ operand_len e.2) where

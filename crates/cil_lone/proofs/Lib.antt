@@ -3,6 +3,7 @@ pub mod Walk
 pub mod Break
 pub mod Operands
 pub mod Fields
+pub mod SameCut
 pub mod Reading
 pub mod Parts
 pub mod Above

@@ -1,5 +1,5 @@
 -- The operands of the instructions that a lone body has.
-use Rattle.std.proofs.Common.{◌≡◌, ℕ, eqb, cond, Bool, true, false, List, [], ◌∷◌, Option, Some, refl}
+use Rattle.std.proofs.Common.{◌≡◌, ℕ, eqb, cond, Bool, true, false, List, [], ◌∷◌, Some, refl}
 use Rattle.std.specs.Prelude.{find, ◌&&◌, ◌==◌}
 use Rattle.std.specs.List.{list_all}
 use Rattle.cil_instruction.specs.declared.opcode.Operand.{Operand}

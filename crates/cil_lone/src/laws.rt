@@ -1,6 +1,6 @@
 // What follows from the definitions, for the crates above.
 
-ghost use Rattle.cil_lone.specs.Laws.{HasOneCode, HasNoFault, HasOneFault, CodeWalks, OperandsFit, CodeIsConsecutive, PlacesAreWithin, InstructionsHaveBytes};
+ghost use Rattle.cil_lone.specs.Laws.{HasOneCode, HasNoFault, HasOneFault, CodeWalks, OperandsFit, CodeIsConsecutive, PlacesAreWithin, InstructionsHaveBytes, IsOfAllBodies, IsOfLoneBodies};
 
 /// A file is a lone body with one code, or has one fault, and never both.
 pub fn one_reading()
@@ -20,4 +20,10 @@ pub fn code_fills_the_file()
     ensures within { PlacesAreWithin }
     ensures operands { OperandsFit }
     ensures some { InstructionsHaveBytes }
+{}
+
+/// A lone body is cut as all bodies are: the same instructions stand at the same bytes.
+pub fn one_cut()
+    ensures all { IsOfAllBodies }
+    ensures lone { IsOfLoneBodies }
 {}

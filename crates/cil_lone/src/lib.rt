@@ -12,6 +12,6 @@ mod standalone;
 #[cfg(test)]
 mod tests;
 
-pub use laws::{balance_is_a_walk, code_fills_the_file, one_reading};
+pub use laws::{balance_is_a_walk, code_fills_the_file, one_cut, one_reading};
 pub use row::{Row, Source, Two, size_of};
 pub use standalone::{LoneFault, lone};
