@@ -9,7 +9,7 @@ use Rattle.cli_metadata.specs.declared.root.Stream.{Stream}
 use Rattle.cli_metadata.specs.declared.root.Streams.{Streams}
 use Rattle.cli_metadata.specs.declared.layout.Placed.{Placed}
 use Rattle.cli_metadata.specs.Widths.{width_of, row_width}
-use Rattle.cli_metadata.specs.Standard.{standard_columns}
+use Rattle.cli_metadata.specs.Standard.{tables_by_number}
 use Rattle.cli_metadata.specs.Metadata.{Contents, heap_of, up_to_tables}
 
 -- a number of `n` bytes stands whole at a place, the least byte first
@@ -165,10 +165,6 @@ pub record AreTables (tables : List (List Column)) (bytes : List ℕ) (at : ℕ)
   pub whole : ArePlaced (length bytes) placed
 
 -- ---- metadata
-
--- the tables with their columns, by number (II.22)
-abbrev pub tables_by_number : List (List Column)
-tables_by_number = map standard_columns (range_with_len 0 45)
 
 -- these bytes are metadata with these contents
 pub record IsStanding (bytes : List ℕ) (m : Contents) : Type 0 where

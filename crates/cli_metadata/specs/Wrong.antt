@@ -7,9 +7,10 @@ use Rattle.cli_metadata.specs.declared.tables.Column.{Column}
 use Rattle.cli_metadata.specs.declared.root.Stream.{Stream}
 use Rattle.cli_metadata.specs.declared.root.Streams.{Streams}
 use Rattle.cli_metadata.specs.declared.layout.Placed.{Placed}
+use Rattle.cli_metadata.specs.Standard.{tables_by_number}
 use Rattle.cli_metadata.specs.Widths.{width_of, row_width}
 use Rattle.cli_metadata.specs.Metadata.{up_to_tables}
-use Rattle.cli_metadata.specs.Standing.{Header, is_table, AreConsecutive, IsNumber, IsRoot, IsName, AreHeaders, IsFirst, IsFirstNamed, AreStreams, bit, tables_below, IsRowCount, rows_by_number, tables_by_number}
+use Rattle.cli_metadata.specs.Standing.{Header, is_table, AreConsecutive, IsNumber, IsRoot, IsName, AreHeaders, IsFirst, IsFirstNamed, AreStreams, bit, tables_below, IsRowCount, rows_by_number}
 
 -- ---- fields
 
