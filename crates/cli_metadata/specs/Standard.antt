@@ -1,5 +1,5 @@
 -- The tables of the standard in its own order (ECMA-335 II.22.2 to II.22.39), and its coded indices (II.24.2.6).
-use Rattle.std.specs.Prelude.{◌≡◌, ℕ, ◌-◌, List, [], ◌∷◌, ◌++◌, length, map, replicate, find, Option, ◌==◌}
+use Rattle.std.specs.Prelude.{ℕ, ◌-◌, List, [], ◌∷◌, ◌++◌, length, map, replicate, find, Option, ◌==◌}
 use Rattle.std.specs.Option.{option_map, option_map_or}
 use Rattle.std.specs.List.{range_with_len}
 use Rattle.cli_metadata.specs.declared.tables.Table.{Table}

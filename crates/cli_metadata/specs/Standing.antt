@@ -1,7 +1,6 @@
 -- Metadata in the standard's words: which numbers and names stand at which places of its bytes (ECMA-335 II.24.2.1,
 -- II.24.2.2, II.24.2.6). Nothing here reads, and no fact comes before another. Places count from the root's first byte.
 use Rattle.std.specs.Prelude.{◌≡◌, ◌≢◌, ◌≤◌, ◌<◌, ℕ, zero, suc, ◌+◌, ◌*◌, ◌/◌, ◌%◌, ◌^◌, List, [], ◌∷◌, ◌++◌, length, drop, Bool, true, false, Option, None, Some, IsTrue, All, slice_index, slice_index_or, map, codes}
-use Rattle.std.specs.List.{range_with_len}
 use Rattle.byteorder.specs.Endian.{little_number}
 use Rattle.cli_metadata.specs.declared.tables.Column.{Column}
 use Rattle.cli_metadata.specs.declared.tables.Column.TheVariants as columns

@@ -1,6 +1,6 @@
 -- What is wrong with bytes that aren't metadata, in the standard's words (ECMA-335 II.24.2.1, II.24.2.2, II.24.2.6): what
 -- should stand next to what stands doesn't. Places count from the root's first byte.
-use Rattle.std.specs.Prelude.{◌≡◌, ◌≤◌, ◌<◌, ◌⊎◌, ℕ, ◌+◌, ◌*◌, List, [], ◌∷◌, ◌++◌, length, None, Some, IsTrue, All, Contains, slice_index, slice_index_or, map, codes, false}
+use Rattle.std.specs.Prelude.{◌≡◌, ◌≤◌, ◌<◌, ◌⊎◌, ℕ, ◌+◌, ◌*◌, List, [], ◌∷◌, ◌++◌, length, None, IsTrue, All, Contains, slice_index, slice_index_or, map, codes, false}
 use Rattle.cli_metadata.specs.declared.fault.MetaCause.{MetaCause}
 use Rattle.cli_metadata.specs.declared.fault.MetaCause.TheVariants.{BadRoot, BadStream, BadHeader, UnknownTable, Truncated}
 use Rattle.cli_metadata.specs.declared.tables.Column.{Column}
