@@ -1,4 +1,4 @@
--- The stream of tables: its header, and where the tables stand in it (ECMA-335 II.24.2.6). Places count from the root's
+-- The stream of tables, as it is read: its header, and where the tables stand in it. Places count from the root's
 -- first byte, and the bytes are those up to the end of the stream.
 use Rattle.std.specs.Prelude.{ℕ, zero, suc, ◌+◌, ◌*◌, ◌/◌, ◌%◌, List, [], ◌∷◌, Bool, Result, Ok, nat_lt, ◌==◌, ◌&&◌, ◌||◌, if◌then◌else◌, slice_index, map}
 use Rattle.cli_metadata.specs.declared.fault.MetaFault.{MetaFault}

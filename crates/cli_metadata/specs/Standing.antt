@@ -41,13 +41,13 @@ pub record IsName (bytes : List ℕ) (place : ℕ) (name : List ℕ) : Type 0 wh
   pub short : length name ≤ 32
   pub whole : place + padded (length name) ≤ length bytes
 
--- a stream header: the stream, its name, and the place behind the header
+-- a stream header: its stream, its name, and the place behind it
 pub record Header : Type 0 where
   pub stream : Stream
   pub name : List ℕ
   pub next : ℕ
 
--- a header: where the stream begins, its size, and its name; `next` is the place behind it
+-- what stands in a header: where the stream begins, its size, and its name
 pub record IsHeader (bytes : List ℕ) (h : Header) : Type 0 where
   pub from : IsNumber 4 bytes h.stream.place h.stream.from
   pub size : IsNumber 4 bytes (h.stream.place + 4) h.stream.size
