@@ -1,5 +1,5 @@
 -- What metadata holds, in ranges of bytes.
-use Rattle.std.proofs.Common.{◌≡◌, ℕ, ◌+◌, ◌-◌, ◌*◌, ◌≤◌, length, arith}
+use Rattle.std.proofs.Common.{ℕ, ◌+◌, ◌-◌, ◌*◌, ◌≤◌, length, arith}
 use Rattle.cli_metadata.specs.Numbers.{number_of}
 use Rattle.cli_metadata.specs.Widths.{row_width}
 use Rattle.cli_metadata.specs.Metadata.{nowhere, placed_of}

@@ -8,7 +8,6 @@ use Rattle.cli_metadata.specs.Wrong.{IsWrong}
 use Rattle.cli_metadata.specs.Laws.{HasOneContent, HasNoFault, HasOneFault}
 use Rattle.cli_metadata.specs.Read.{metadata_of}
 use Rattle.cli_metadata.proofs.Places.{ok_is}
-use Rattle.cli_metadata.proofs.Fields.{err_is}
 use Rattle.cli_metadata.proofs.Stands.{read-stands, standing-read}
 use Rattle.cli_metadata.proofs.Fails.{fault-wrong, wrong-fault}
 

@@ -1,12 +1,11 @@
 -- What follows from the definitions.
-use Rattle.std.specs.Prelude.{◌≡◌, ◌≤◌, ℕ, ◌+◌, List, length, map}
-use Rattle.std.specs.List.{range_with_len}
+use Rattle.std.specs.Prelude.{◌≡◌, ◌≤◌, ℕ, ◌+◌, List, length}
 use Rattle.cli_metadata.specs.declared.fault.MetaFault.{MetaFault}
 use Rattle.cli_metadata.specs.declared.tables.Table.{Table}
 use Rattle.cli_metadata.specs.declared.tables.TheConstants.{TABLES}
 use Rattle.cli_metadata.specs.declared.coded_index.Coded.{Coded as Kind}
 use Rattle.cli_metadata.specs.Tables.{targets_of}
-use Rattle.cli_metadata.specs.Standard.{standard_columns, standard_targets}
+use Rattle.cli_metadata.specs.Standard.{tables_by_number, standard_targets}
 use Rattle.cli_metadata.specs.Widths.{row_width}
 use Rattle.cli_metadata.specs.Metadata.{Contents, placed_of, rows_of, row_start}
 use Rattle.cli_metadata.specs.Standing.{IsStanding}
@@ -14,7 +13,7 @@ use Rattle.cli_metadata.specs.Wrong.{IsWrong}
 
 -- the tables of the crate are those of the standard, by number
 abbrev pub TablesAreTheStandards : Type 0
-TablesAreTheStandards = TABLES ≡ map standard_columns (range_with_len 0 45)
+TablesAreTheStandards = TABLES ≡ tables_by_number
 
 -- the coded indices of the crate are those of the standard
 abbrev pub CodedAreTheStandards : Type 0

@@ -1,6 +1,6 @@
--- The stream of tables: its header, and where the tables stand in it (ECMA-335 II.24.2.6). Places count from the root's
+-- The stream of tables, as it is read: its header, and where the tables stand in it. Places count from the root's
 -- first byte, and the bytes are those up to the end of the stream.
-use Rattle.std.specs.Prelude.{◌≤◌, ℕ, zero, suc, ◌+◌, ◌*◌, ◌/◌, ◌%◌, List, [], ◌∷◌, Bool, true, false, Result, Ok, nat_lt, ◌==◌, ◌&&◌, ◌||◌, if◌then◌else◌, slice_index, map}
+use Rattle.std.specs.Prelude.{ℕ, zero, suc, ◌+◌, ◌*◌, ◌/◌, ◌%◌, List, [], ◌∷◌, Bool, Result, Ok, nat_lt, ◌==◌, ◌&&◌, ◌||◌, if◌then◌else◌, slice_index, map}
 use Rattle.cli_metadata.specs.declared.fault.MetaFault.{MetaFault}
 use Rattle.cli_metadata.specs.declared.fault.MetaCause.TheVariants.{BadHeader, UnknownTable, Truncated}
 use Rattle.cli_metadata.specs.declared.tables.Column.{Column}
@@ -8,6 +8,7 @@ use Rattle.cli_metadata.specs.declared.widths.Width.{Width}
 use Rattle.cli_metadata.specs.declared.layout.Prefix.{Prefix}
 use Rattle.cli_metadata.specs.declared.layout.Placed.{Placed}
 use Rattle.cli_metadata.specs.Reading.{◌>>=◌, behind, number_at, holds}
+use Rattle.cli_metadata.specs.Numbers.{table_numbers}
 use Rattle.cli_metadata.specs.Widths.{width_of, row_width}
 use Rattle.cli_metadata.specs.Standing.{is_table}
 
@@ -69,5 +70,5 @@ tables_at sizes counts (columns ∷ tables) k bytes at = do
 unfoldable pub tables_of : List (List Column) → List ℕ → ℕ → Result (List Placed) MetaFault
 tables_of tables bytes at = do
   prefix ← prefix_at tables bytes at
-  counts ← counts_at 45 prefix.valid bytes (at + 24)
+  counts ← counts_at table_numbers prefix.valid bytes (at + 24)
   tables_at prefix.sizes counts.0 tables 0 bytes counts.1

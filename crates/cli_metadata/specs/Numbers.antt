@@ -42,3 +42,7 @@ number_of NestedClass = 0x29
 number_of GenericParam = 0x2A
 number_of MethodSpec = 0x2B
 number_of GenericParamConstraint = 0x2C
+
+-- each number of a table is below this one
+abbrev pub table_numbers : ℕ
+table_numbers = 45

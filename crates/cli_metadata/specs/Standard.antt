@@ -1,5 +1,5 @@
 -- The tables of the standard in its own order (ECMA-335 II.22.2 to II.22.39), and its coded indices (II.24.2.6).
-use Rattle.std.specs.Prelude.{◌≡◌, ℕ, ◌-◌, List, [], ◌∷◌, ◌++◌, length, map, replicate, find, Option, ◌==◌}
+use Rattle.std.specs.Prelude.{ℕ, ◌-◌, List, [], ◌∷◌, ◌++◌, length, map, replicate, find, Option, ◌==◌}
 use Rattle.std.specs.Option.{option_map, option_map_or}
 use Rattle.std.specs.List.{range_with_len}
 use Rattle.cli_metadata.specs.declared.tables.Table.{Table}
@@ -9,7 +9,7 @@ use Rattle.cli_metadata.specs.declared.tables.Column.TheVariants.{Absent, Number
 use Rattle.cli_metadata.specs.declared.coded_index.Coded.{Coded as Kind}
 use Rattle.cli_metadata.specs.declared.coded_index.Coded.TheVariants.{TypeDefOrRef, HasConstant, HasCustomAttribute, HasFieldMarshal, HasDeclSecurity, MemberRefParent, HasSemantics, MethodDefOrRef, MemberForwarded, Implementation, CustomAttributeType, ResolutionScope, TypeOrMethodDef}
 use Rattle.cli_metadata.specs.declared.coded_index.Targets.{Targets}
-use Rattle.cli_metadata.specs.Numbers.{number_of}
+use Rattle.cli_metadata.specs.Numbers.{number_of, table_numbers}
 
 -- a table and its columns
 pub record Line : Type 0 where
@@ -69,6 +69,10 @@ nine columns = columns ++ replicate (9 - length columns) Absent
 -- the columns of the table of this number, and none where no table has it
 abbrev pub standard_columns : ℕ → List Column
 standard_columns n = nine (option_map_or (λ t. t.columns) (find (λ t. number_of t.table == n) standard_tables) [])
+
+-- the tables with their columns, by number (II.22)
+abbrev pub tables_by_number : List (List Column)
+tables_by_number = map standard_columns (range_with_len 0 table_numbers)
 
 -- a table that a coded index may name, with its tag
 pub record Tagged : Type 0 where

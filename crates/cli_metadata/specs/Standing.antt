@@ -1,7 +1,6 @@
 -- Metadata in the standard's words: which numbers and names stand at which places of its bytes (ECMA-335 II.24.2.1,
 -- II.24.2.2, II.24.2.6). Nothing here reads, and no fact comes before another. Places count from the root's first byte.
 use Rattle.std.specs.Prelude.{◌≡◌, ◌≢◌, ◌≤◌, ◌<◌, ℕ, zero, suc, ◌+◌, ◌*◌, ◌/◌, ◌%◌, ◌^◌, List, [], ◌∷◌, ◌++◌, length, drop, Bool, true, false, Option, None, Some, IsTrue, All, slice_index, slice_index_or, map, codes}
-use Rattle.std.specs.List.{range_with_len}
 use Rattle.byteorder.specs.Endian.{little_number}
 use Rattle.cli_metadata.specs.declared.tables.Column.{Column}
 use Rattle.cli_metadata.specs.declared.tables.Column.TheVariants as columns
@@ -9,7 +8,7 @@ use Rattle.cli_metadata.specs.declared.root.Stream.{Stream}
 use Rattle.cli_metadata.specs.declared.root.Streams.{Streams}
 use Rattle.cli_metadata.specs.declared.layout.Placed.{Placed}
 use Rattle.cli_metadata.specs.Widths.{width_of, row_width}
-use Rattle.cli_metadata.specs.Standard.{standard_columns}
+use Rattle.cli_metadata.specs.Standard.{tables_by_number}
 use Rattle.cli_metadata.specs.Metadata.{Contents, heap_of, up_to_tables}
 
 -- a number of `n` bytes stands whole at a place, the least byte first
@@ -42,13 +41,13 @@ pub record IsName (bytes : List ℕ) (place : ℕ) (name : List ℕ) : Type 0 wh
   pub short : length name ≤ 32
   pub whole : place + padded (length name) ≤ length bytes
 
--- a stream header: the stream, its name, and the place behind the header
+-- a stream header: its stream, its name, and the place behind it
 pub record Header : Type 0 where
   pub stream : Stream
   pub name : List ℕ
   pub next : ℕ
 
--- a header: where the stream begins, its size, and its name; `next` is the place behind it
+-- what stands in a header: where the stream begins, its size, and its name
 pub record IsHeader (bytes : List ℕ) (h : Header) : Type 0 where
   pub from : IsNumber 4 bytes h.stream.place h.stream.from
   pub size : IsNumber 4 bytes (h.stream.place + 4) h.stream.size
@@ -165,10 +164,6 @@ pub record AreTables (tables : List (List Column)) (bytes : List ℕ) (at : ℕ)
   pub whole : ArePlaced (length bytes) placed
 
 -- ---- metadata
-
--- the tables with their columns, by number (II.22)
-abbrev pub tables_by_number : List (List Column)
-tables_by_number = map standard_columns (range_with_len 0 45)
 
 -- these bytes are metadata with these contents
 pub record IsStanding (bytes : List ℕ) (m : Contents) : Type 0 where

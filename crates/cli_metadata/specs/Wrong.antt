@@ -1,15 +1,16 @@
 -- What is wrong with bytes that aren't metadata, in the standard's words (ECMA-335 II.24.2.1, II.24.2.2, II.24.2.6): what
 -- should stand next to what stands doesn't. Places count from the root's first byte.
-use Rattle.std.specs.Prelude.{◌≡◌, ◌≤◌, ◌<◌, ◌⊎◌, ℕ, ◌+◌, ◌*◌, List, [], ◌∷◌, ◌++◌, length, None, Some, IsTrue, All, Contains, slice_index, slice_index_or, map, codes, false}
+use Rattle.std.specs.Prelude.{◌≡◌, ◌≤◌, ◌<◌, ◌⊎◌, ℕ, ◌+◌, ◌*◌, List, [], ◌∷◌, ◌++◌, length, None, IsTrue, All, Contains, slice_index, slice_index_or, map, codes, false}
 use Rattle.cli_metadata.specs.declared.fault.MetaCause.{MetaCause}
 use Rattle.cli_metadata.specs.declared.fault.MetaCause.TheVariants.{BadRoot, BadStream, BadHeader, UnknownTable, Truncated}
 use Rattle.cli_metadata.specs.declared.tables.Column.{Column}
 use Rattle.cli_metadata.specs.declared.root.Stream.{Stream}
 use Rattle.cli_metadata.specs.declared.root.Streams.{Streams}
 use Rattle.cli_metadata.specs.declared.layout.Placed.{Placed}
+use Rattle.cli_metadata.specs.Standard.{tables_by_number}
 use Rattle.cli_metadata.specs.Widths.{width_of, row_width}
 use Rattle.cli_metadata.specs.Metadata.{up_to_tables}
-use Rattle.cli_metadata.specs.Standing.{Header, is_table, AreConsecutive, IsNumber, IsRoot, IsName, AreHeaders, IsFirst, IsFirstNamed, AreStreams, bit, tables_below, IsRowCount, rows_by_number, tables_by_number}
+use Rattle.cli_metadata.specs.Standing.{Header, is_table, AreConsecutive, IsNumber, IsRoot, IsName, AreHeaders, IsFirst, IsFirstNamed, AreStreams, bit, tables_below, IsRowCount, rows_by_number}
 
 -- ---- fields
 

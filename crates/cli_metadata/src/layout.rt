@@ -2,6 +2,7 @@
 
 ghost use Rattle.std.specs.Prelude.{◌≡◌, ◌≤◌, ◌<◌, ◌+◌, ◌*◌, ◌^◌, length, IfOk, OnOk};
 ghost use Rattle.cli_metadata.specs.Reading.{Gives};
+ghost use Rattle.cli_metadata.specs.Numbers.{table_numbers};
 ghost use Rattle.cli_metadata.specs.Widths.{row_width};
 ghost use Rattle.cli_metadata.specs.Standing.{is_table, ArePlaced};
 ghost use Rattle.cli_metadata.specs.Layout.{are_tables, versioned_at, prefix_at, count_at, counts_at, table_at, tables_at, tables_of};
@@ -112,7 +113,7 @@ pub(crate) fn counts_at(
 ) -> Result<([u32; TABLE_NUMBERS], usize), MetaFault>
     requires place { at ≤ length bytes.now }
     requires short { length bytes.now < 2 ^ 32 }
-    ensures counts { result ≡ counts_at 45 valid bytes.now at }
+    ensures counts { result ≡ counts_at table_numbers valid bytes.now at }
     ensures whole { IfOk result (λ x. x.1 ≤ length bytes.now) }
 {
     let mut counts = [0; TABLE_NUMBERS];

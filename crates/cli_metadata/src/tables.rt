@@ -1,7 +1,7 @@
 // The tables of the standard with their columns.
 
 ghost use Rattle.std.specs.Prelude.{◌≡◌, ◌<◌};
-ghost use Rattle.cli_metadata.specs.Numbers.{number_of};
+ghost use Rattle.cli_metadata.specs.Numbers.{number_of, table_numbers};
 
 use crate::Coded;
 use Coded::{
@@ -58,7 +58,7 @@ impl Table {
     /// The number of the table, which is the high byte of the tokens of its rows.
     pub fn number(self) -> u8
         ensures number { result ≡ number_of self }
-        ensures low { result < 45 }
+        ensures low { result < table_numbers }
     {
         match self {
             Table::Module => 0x00,

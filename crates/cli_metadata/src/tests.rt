@@ -45,7 +45,7 @@ const OTHER: [u8; 163] = [
 ];
 
 // The cells of a row of TypeRef.
-#[derive(Clone, Copy, Debug, PartialEq)]
+#[derive(Clone, Copy)]
 struct TypeRefRow {
     scope: u32,
     name: u32,
@@ -54,6 +54,7 @@ struct TypeRefRow {
 
 impl TableRow for TypeRefRow {
     ghost use Rattle.std.specs.Prelude.{slice_index};
+    ghost use Rattle.cli_metadata.specs.declared.tables.Table.TheVariants.{TypeRef};
 
     ghost of_cells = { λ cells. record {
       scope = slice_index cells 0;
@@ -61,7 +62,7 @@ impl TableRow for TypeRefRow {
       namespace = slice_index cells 2;
     } };
 
-    ghost TABLE = { Table.TypeRef };
+    ghost TABLE = { TypeRef };
 
     const TABLE: Table = Table::TypeRef;
 
