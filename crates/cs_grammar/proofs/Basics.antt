@@ -1,10 +1,9 @@
 -- Nothing, one token, and wider kinds.
-use Rattle.std.proofs.Common.{◌≡◌, ◌⊎◌, inl, inr, ℕ, Bool, true, false, cond, List, [], ◌∷◌, ◌++◌, refl, sym, ◌∙◌, ap, subst, Result, Ok, Err}
-use Rattle.std.proofs.lemmas.List.{append-nil, append_assoc}
+use Rattle.std.proofs.Common.{◌≡◌, inl, inr, ℕ, Bool, true, false, List, [], ◌∷◌, refl, sym, ◌∙◌, ap, subst, Ok, Err}
 use Rattle.cs_grammar.specs.Kinds.{has, begins, subset}
 use Rattle.cs_grammar.specs.Grammar.{Read, Grammar, gives, one, TakesOne, read_one}
-use Rattle.cs_grammar.specs.Exact.{Starts, Alike, Fits, Taken, Moved, Stuck, Lives, Exact}
-use Rattle.cs_grammar.proofs.Sets.{subset-has, begins-subset, is_not}
+use Rattle.cs_grammar.specs.Exact.{Starts, Alike, Fits, Taken, Moved, Exact}
+use Rattle.cs_grammar.proofs.Sets.{subset-has, begins-subset}
 
 abbrev pub ok : {T A : Type 0} → A × List T → Read T A
 ok p = Ok p
@@ -118,16 +117,16 @@ exact_one {kind = kind} kinds f sample s =
       heads = one_heads kind kinds f;
       moves = λ ts a rest e. one_moves kind kinds f ts a rest (one_sound kind kinds f ts a rest e);
       stuck = λ ts deep left e.
-        let is = one_left kind kinds f ts deep left e in
-        record {
-          front = [];
-          split = sym is.1;
-          same = λ other h.
-            one_same kind kinds f ts other is.2 (subst (λ us. Alike kind us other) is.1 h) ∙ ap (λ d. err (d, other)) (sym is.0);
-          onward = sample ∷ [];
-          value = f sample;
-          whole = read_one-is kind kinds f sample [] s;
-        };
+          let is = one_left kind kinds f ts deep left e in
+          record {
+            front = [];
+            split = sym is.1;
+            same = λ other h.
+                one_same kind kinds f ts other is.2 (subst (λ us. Alike kind us other) is.1 h) ∙ ap (λ d. err (d, other)) (sym is.0);
+            onward = sample ∷ [];
+            value = f sample;
+            whole = read_one-is kind kinds f sample [] s;
+          };
       lives = record { text = sample ∷ []; value = f sample; whole = read_one-is kind kinds f sample [] s };
     }
 
@@ -147,16 +146,16 @@ wider {kind = kind} {g = g} {first = first} {more = more} {follow = follow} {fur
       sound = x.sound;
       again = λ ts a rest d n. x.again ts a rest d (begins-subset kind follow further rest w n);
       heads = λ ts a rest d.
-        let h = x.heads ts a rest d in
-        record { front = h.front; split = h.split; starts = starts_wider kind first more null h.front s h.starts };
+          let h = x.heads ts a rest d in
+          record { front = h.front; split = h.split; starts = starts_wider kind first more null h.front s h.starts };
       moves = λ ts a rest e.
-        let m = x.moves ts a rest e in
-        record {
-          front = m.front;
-          split = m.split;
-          starts = starts_wider kind first more null m.front s m.starts;
-          again = λ other fits. m.again other (fits_wider kind follow further rest other w fits);
-        };
+          let m = x.moves ts a rest e in
+          record {
+            front = m.front;
+            split = m.split;
+            starts = starts_wider kind first more null m.front s m.starts;
+            again = λ other fits. m.again other (fits_wider kind follow further rest other w fits);
+          };
       stuck = x.stuck;
       lives = x.lives;
     }

@@ -1,11 +1,11 @@
 -- One behind the other.
-use Rattle.std.proofs.Common.{◌≡◌, ◌⊎◌, inl, inr, ℕ, Bool, true, false, cond, ◌&&◌, List, [], ◌∷◌, ◌++◌, refl, sym, ◌∙◌, ap, subst, Result, Ok, Err}
+use Rattle.std.proofs.Common.{◌≡◌, ◌⊎◌, inl, inr, ℕ, Bool, true, false, cond, ◌&&◌, List, [], ◌∷◌, ◌++◌, refl, sym, ◌∙◌, ap, subst, Ok, Err}
 use Rattle.std.proofs.lemmas.List.{append-nil, append_assoc}
 use Rattle.cs_grammar.specs.Kinds.{has, begins, disjoint}
 use Rattle.cs_grammar.specs.Grammar.{Read, Grammar, and_then, bind}
 use Rattle.cs_grammar.specs.Exact.{Starts, Alike, Fits, Taken, Moved, Stuck, Lives, Exact}
-use Rattle.cs_grammar.proofs.Sets.{has-left, has-right, disjoint-lacks_back, begins-left, begins-right, alike_self, alike_behind}
-use Rattle.cs_grammar.proofs.Basics.{ok, err, ok_value, ok_rest, err_deep, err_left, not_both}
+use Rattle.cs_grammar.proofs.Sets.{has-left, has-right, disjoint-lacks_back, begins-left, begins-right, alike_behind}
+use Rattle.cs_grammar.proofs.Basics.{err, not_both}
 
 pub and_then-ok : {T A B : Type 0} (r : Read T A) (a : A) (mid : List T) (k : A → List T → Read T B) → r ≡ Ok (a, mid) → and_then r k ≡ k a mid
 and_then-ok r a mid k e = ap (λ s. and_then s k) e
@@ -73,8 +73,8 @@ pub then : {T A B : Type 0} {kind : T → ℕ} {g : Grammar T A} {f : A → Gram
 then {T = T} {A = A} {B = B} {kind = kind} {g = g} {f = f} {xs = xs} {ys = ys} {v = v} {w = w} {m = m} {n = n} x d y =
     record {
       sound = λ ts b rest e.
-        let p = both_of (g.reads ts) next b rest e in
-        (p.value, p.mid, x.sound ts p.value p.mid p.one, (y p.value).sound p.mid b rest p.other);
+          let p = both_of (g.reads ts) next b rest e in
+          (p.value, p.mid, x.sound ts p.value p.mid p.one, (y p.value).sound p.mid b rest p.other);
       again = again;
       heads = λ ts b rest p. then_heads kind xs ys m n ts p.1 rest (x.heads ts p.0 p.1 p.2) ((y p.0).heads p.1 b rest p.3);
       moves = moves;
@@ -101,11 +101,11 @@ then {T = T} {A = A} {B = B} {kind = kind} {g = g} {f = f} {xs = xs} {ys = ys} {
           split = joined ts h.front p.mid k.front rest h.split k.split;
           starts = starts_both kind xs ys m n h.front k.front h.starts k.starts;
           again = λ other fits.
-            let first : g.reads (h.front ++ (k.front ++ other)) ≡ Ok (p.value, k.front ++ other) =
-                h.again (k.front ++ other) (subst (λ us. Fits kind v us (k.front ++ other)) (sym k.split) (before_fits kind v w ys n k.front rest other d k.starts fits))
-            in
-            ap (λ us. (bind g f).reads us) (append_assoc h.front k.front other)
-            ∙ (and_then-ok (g.reads (h.front ++ (k.front ++ other))) p.value (k.front ++ other) next first
+              let first : g.reads (h.front ++ (k.front ++ other)) ≡ Ok (p.value, k.front ++ other) =
+              h.again (k.front ++ other) (subst (λ us. Fits kind v us (k.front ++ other)) (sym k.split) (before_fits kind v w ys n k.front rest other d k.starts fits))
+              in
+              ap (λ us. (bind g f).reads us) (append_assoc h.front k.front other)
+              ∙ (and_then-ok (g.reads (h.front ++ (k.front ++ other))) p.value (k.front ++ other) next first
               ∙ k.again other (fits_left kind w (cond n v []) rest other fits));
         }
 
@@ -149,19 +149,19 @@ then {T = T} {A = A} {B = B} {kind = kind} {g = g} {f = f} {xs = xs} {ys = ys} {
           front = h.front ++ s.front;
           split = joined ts h.front p.mid s.front left h.split s.split;
           same = λ other alike.
-            let first : g.reads (h.front ++ (s.front ++ other)) ≡ Ok (p.value, s.front ++ other) =
-                h.again (s.front ++ other) (inr (subst (λ us. Alike kind us (s.front ++ other)) (sym s.split) (alike_behind kind s.front left other alike)))
-            in
-            ap (λ us. (bind g f).reads us) (append_assoc h.front s.front other)
-            ∙ (and_then-ok (g.reads (h.front ++ (s.front ++ other))) p.value (s.front ++ other) next first ∙ s.same other alike);
+              let first : g.reads (h.front ++ (s.front ++ other)) ≡ Ok (p.value, s.front ++ other) =
+              h.again (s.front ++ other) (inr (subst (λ us. Alike kind us (s.front ++ other)) (sym s.split) (alike_behind kind s.front left other alike)))
+              in
+              ap (λ us. (bind g f).reads us) (append_assoc h.front s.front other)
+              ∙ (and_then-ok (g.reads (h.front ++ (s.front ++ other))) p.value (s.front ++ other) next first ∙ s.same other alike);
           onward = s.onward;
           value = s.value;
           whole =
-            let first : g.reads (h.front ++ (s.front ++ s.onward)) ≡ Ok (p.value, s.front ++ s.onward) =
-                h.again (s.front ++ s.onward) (subst (λ us. Fits kind v us (s.front ++ s.onward)) (sym s.split) (onward s.front left s.onward s.value s.whole))
-            in
-            ap (λ us. (bind g f).reads us) (append_assoc h.front s.front s.onward)
-            ∙ (and_then-ok (g.reads (h.front ++ (s.front ++ s.onward))) p.value (s.front ++ s.onward) next first ∙ s.whole);
+              let first : g.reads (h.front ++ (s.front ++ s.onward)) ≡ Ok (p.value, s.front ++ s.onward) =
+              h.again (s.front ++ s.onward) (subst (λ us. Fits kind v us (s.front ++ s.onward)) (sym s.split) (onward s.front left s.onward s.value s.whole))
+              in
+              ap (λ us. (bind g f).reads us) (append_assoc h.front s.front s.onward)
+              ∙ (and_then-ok (g.reads (h.front ++ (s.front ++ s.onward))) p.value (s.front ++ s.onward) next first ∙ s.whole);
         }
       where
         starting : (us : List T) → Starts kind ys n us → begins kind v (us ++ []) ≡ false

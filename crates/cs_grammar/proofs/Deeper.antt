@@ -1,15 +1,14 @@
 -- More levels read no less, and get further where there were too few.
-use Rattle.std.proofs.Common.{◌≡◌, ◌⊎◌, inl, inr, ℕ, zero, suc, ◌+◌, ◌<◌, ◌≤◌, Bool, true, false, cond, List, [], ◌∷◌, ◌++◌, length, refl, sym, ◌∙◌, ap, subst, Result, Ok, Err, arith}
+use Rattle.std.proofs.Common.{◌≡◌, inl, inr, ℕ, zero, suc, ◌<◌, ◌≤◌, Bool, true, false, cond, List, [], ◌∷◌, ◌++◌, length, refl, sym, ◌∙◌, ap, subst, Ok, Err, arith}
 use Rattle.std.proofs.lemmas.List.{length-append}
-use Rattle.cs_grammar.specs.Kinds.{has, begins, subset}
+use Rattle.cs_grammar.specs.Kinds.{begins}
 use Rattle.cs_grammar.specs.Grammar.{Read, Grammar, gives, one, read_one, and_then, bind, either, limited, guarded, choice, turns, read_rounds}
 use Rattle.cs_grammar.specs.Exact.{Exact}
 use Rattle.cs_grammar.specs.Whole.{left_of, Deeper}
 use Rattle.cs_grammar.specs.Levels.{Yields, Enters}
-use Rattle.cs_grammar.proofs.Sets.{subset-has, is_not}
-use Rattle.cs_grammar.proofs.Basics.{ok, err, ok_value, ok_rest, err_deep, err_left, not_both, one_left, read_one-is}
-use Rattle.cs_grammar.proofs.Bind.{and_then-ok, and_then-err, both_of, fails_in, InSecond}
-use Rattle.cs_grammar.proofs.Turns.{Turn, turn, stops, too_deep, goes, stop, round}
+use Rattle.cs_grammar.proofs.Basics.{err, ok_value, err_deep, err_left, not_both, one_left, read_one-is}
+use Rattle.cs_grammar.proofs.Bind.{and_then-ok, and_then-err, both_of, fails_in}
+use Rattle.cs_grammar.proofs.Turns.{turn, stops, too_deep, goes, stop, round}
 
 -- what is left is no more than there was
 
@@ -28,14 +27,14 @@ rounds_within : {T A : Type 0} (kind : T → ℕ) (first : List ℕ) (room : A �
 rounds_within kind first room f y zero a ts = omega arith
 rounds_within {T = T} {A = A} kind first room f y (suc k) a ts =
     elim (turn kind first room f k a ts (read_rounds kind first room f (suc k) a ts) refl) [
-      stops x h ↦ subst (λ (r : Read T A). left_of r ≤ length ts) h (omega arith)
-    | too_deep x o h ↦ subst (λ (r : Read T A). left_of r ≤ length ts) h (omega arith)
-    | goes x o h ↦
-        let first_left : left_of (and_then ((f a).reads ts) (read_rounds kind first room f k)) ≤ left_of ((f a).reads ts) =
-            left_then ((f a).reads ts) (read_rounds kind first room f k) (rounds_within kind first room f y k)
-        in
-        let all : left_of (and_then ((f a).reads ts) (read_rounds kind first room f k)) ≤ length ts = omega (arith, y a ts) in
-        subst (λ (r : Read T A). left_of r ≤ length ts) h all
+      | stops x h ↦ subst (λ (r : Read T A). left_of r ≤ length ts) h (omega arith)
+      | too_deep x o h ↦ subst (λ (r : Read T A). left_of r ≤ length ts) h (omega arith)
+      | goes x o h ↦
+          let first_left : left_of (and_then ((f a).reads ts) (read_rounds kind first room f k)) ≤ left_of ((f a).reads ts) =
+          left_then ((f a).reads ts) (read_rounds kind first room f k) (rounds_within kind first room f y k)
+          in
+          let all : left_of (and_then ((f a).reads ts) (read_rounds kind first room f k)) ≤ length ts = omega (arith, y a ts) in
+          subst (λ (r : Read T A). left_of r ≤ length ts) h all
     ]
 
 -- what a next token enters
@@ -51,9 +50,9 @@ pub enters_then : {T A B : Type 0} {kind : T → ℕ} {kinds : List ℕ} {g : Gr
 enters_then {g = g} {f = f} h y =
     record {
       enters = λ ts e.
-        let second = left_then (g.reads ts) (λ a mid. (f a).reads mid) (λ a mid. left_within (y a) mid) in
-        let first = h.enters ts e in
-        omega arith;
+          let second = left_then (g.reads ts) (λ a mid. (f a).reads mid) (λ a mid. left_within (y a) mid) in
+          let first = h.enters ts e in
+          omega arith;
     }
 
 -- the values that are read
@@ -68,8 +67,8 @@ pub yields_then : {T A B : Type 0} {Q : A → Type 0} {P : B → Type 0} {g : Gr
 yields_then {g = g} {f = f} q p =
     record {
       yields = λ ts b rest e.
-        let s = both_of (g.reads ts) (λ a mid. (f a).reads mid) b rest e in
-        (p s.value (q.yields ts s.value s.mid s.one)).yields s.mid b rest s.other;
+          let s = both_of (g.reads ts) (λ a mid. (f a).reads mid) b rest e in
+          (p s.value (q.yields ts s.value s.mid s.one)).yields s.mid b rest s.other;
     }
 
 pub yields_or : {T A : Type 0} {P : A → Type 0} {g h : Grammar T A} (kind : T → ℕ) (first : List ℕ) → Yields P g → Yields P h → Yields P (either kind first g h)
@@ -98,11 +97,11 @@ rounds_yield : {T A : Type 0} (P : A → Type 0) (kind : T → ℕ) (first : Lis
 rounds_yield P kind first room f y zero a ts c rest p e = subst P (ok_value (a, ts) (c, rest) e) p
 rounds_yield P kind first room f y (suc k) a ts c rest p e =
     elim (turn kind first room f k a ts (Ok (c, rest)) e) [
-      stops x h ↦ subst P (ok_value (a, ts) (c, rest) h) p
-    | too_deep x o h ↦ absurd (not_both (c, rest) (true, ts) (sym h))
-    | goes x o h ↦
-        let s = both_of ((f a).reads ts) (read_rounds kind first room f k) c rest h in
-        rounds_yield P kind first room f y k s.value s.mid c rest ((y a p o).yields ts s.value s.mid s.one) s.other
+      | stops x h ↦ subst P (ok_value (a, ts) (c, rest) h) p
+      | too_deep x o h ↦ absurd (not_both (c, rest) (true, ts) (sym h))
+      | goes x o h ↦
+          let s = both_of ((f a).reads ts) (read_rounds kind first room f k) c rest h in
+          rounds_yield P kind first room f y k s.value s.mid c rest ((y a p o).yields ts s.value s.mid s.one) s.other
     ]
 
 pub yields_turns : {T A : Type 0} {P : A → Type 0} {f : A → Grammar T A} (kind : T → ℕ) (first : List ℕ) (room : A → Bool) (a : A) → P a → ((b : A) → P b → room b ≡ true → Yields P (f b)) → Yields P (turns kind first room f a)
@@ -147,21 +146,21 @@ deeper_then {T = T} {A = A} {B = B} {g = g} {wide = wide} {f = f} {further = fur
     parse : (ts left : List T) → (bind g f).reads ts ≡ Err (false, left) → (bind wide further).reads ts ≡ Err (false, left)
     parse ts left h =
         elim (fails_in (g.reads ts) next false left h) [
-          inl k ↦ and_then-err (wide.reads ts) false left on (d.parse ts left k)
-        | inr s ↦
-            and_then-ok (wide.reads ts) s.value s.mid on (d.same ts s.value s.mid s.one) ∙ (e s.value (p.yields ts s.value s.mid s.one)).parse s.mid left s.other
+          | inl k ↦ and_then-err (wide.reads ts) false left on (d.parse ts left k)
+          | inr s ↦
+              and_then-ok (wide.reads ts) s.value s.mid on (d.same ts s.value s.mid s.one) ∙ (e s.value (p.yields ts s.value s.mid s.one)).parse s.mid left s.other
         ]
 
     deep : (ts left : List T) → (bind g f).reads ts ≡ Err (true, left) → left_of ((bind wide further).reads ts) < length left
     deep ts left h =
         elim (fails_in (g.reads ts) next true left h) [
-          inl k ↦
-            let second = left_then (wide.reads ts) on (λ a mid. left_within (y a) mid) in
-            let first = d.deep ts left k in
-            omega arith
-        | inr s ↦
-            let there = and_then-ok (wide.reads ts) s.value s.mid on (d.same ts s.value s.mid s.one) in
-            subst (λ (r : Read T B). left_of r < length left) (sym there) ((e s.value (p.yields ts s.value s.mid s.one)).deep s.mid left s.other)
+          | inl k ↦
+              let second = left_then (wide.reads ts) on (λ a mid. left_within (y a) mid) in
+              let first = d.deep ts left k in
+              omega arith
+          | inr s ↦
+              let there = and_then-ok (wide.reads ts) s.value s.mid on (d.same ts s.value s.mid s.one) in
+              subst (λ (r : Read T B). left_of r < length left) (sym there) ((e s.value (p.yields ts s.value s.mid s.one)).deep s.mid left s.other)
         ]
 
 pub deeper_or : {T A : Type 0} {g wide h further : Grammar T A} (kind : T → ℕ) (first : List ℕ) → Deeper g wide → Deeper h further → Deeper (either kind first g h) (either kind first wide further)
@@ -216,12 +215,12 @@ rounds_same : {T A : Type 0} (P : A → Type 0) (kind : T → ℕ) (first : List
 rounds_same P kind first room more f further m v d zero a ts c rest p e = e
 rounds_same P kind first room more f further m v d (suc k) a ts c rest p e =
     elim (turn kind first room f k a ts (Ok (c, rest)) e) [
-      stops x h ↦ stop kind first more further (suc k) a ts x ∙ h
-    | too_deep x o h ↦ absurd (not_both (c, rest) (true, ts) (sym h))
-    | goes x o h ↦
-        let s = both_of ((f a).reads ts) (read_rounds kind first room f k) c rest h in
-        round kind first more further k a ts x (m a p)
-        ∙ (and_then-ok ((further a).reads ts) s.value s.mid (read_rounds kind first more further k) ((d a p).same ts s.value s.mid s.one)
+      | stops x h ↦ stop kind first more further (suc k) a ts x ∙ h
+      | too_deep x o h ↦ absurd (not_both (c, rest) (true, ts) (sym h))
+      | goes x o h ↦
+          let s = both_of ((f a).reads ts) (read_rounds kind first room f k) c rest h in
+          round kind first more further k a ts x (m a p)
+          ∙ (and_then-ok ((further a).reads ts) s.value s.mid (read_rounds kind first more further k) ((d a p).same ts s.value s.mid s.one)
           ∙ rounds_same P kind first room more f further m v d k s.value s.mid c rest ((v a p o).yields ts s.value s.mid s.one) s.other)
     ]
 
@@ -229,36 +228,36 @@ rounds_parse : {T A : Type 0} (P : A → Type 0) (kind : T → ℕ) (first : Lis
 rounds_parse P kind first room more f further m v d zero a ts left p e = absurd (not_both (a, ts) (false, left) e)
 rounds_parse {A = A} P kind first room more f further m v d (suc k) a ts left p e =
     elim (turn kind first room f k a ts (Err (false, left)) e) [
-      stops x h ↦ absurd (not_both (a, ts) (false, left) h)
-    | too_deep x o h ↦ absurd (true_not (err_deep A (true, ts) (false, left) h))
-    | goes x o h ↦
-        elim (fails_in ((f a).reads ts) (read_rounds kind first room f k) false left h) [
-          inl g ↦
-            round kind first more further k a ts x (m a p) ∙ and_then-err ((further a).reads ts) false left (read_rounds kind first more further k) ((d a p).parse ts left g)
-        | inr s ↦
-            round kind first more further k a ts x (m a p)
-            ∙ (and_then-ok ((further a).reads ts) s.value s.mid (read_rounds kind first more further k) ((d a p).same ts s.value s.mid s.one)
-              ∙ rounds_parse P kind first room more f further m v d k s.value s.mid left ((v a p o).yields ts s.value s.mid s.one) s.other)
-        ]
+      | stops x h ↦ absurd (not_both (a, ts) (false, left) h)
+      | too_deep x o h ↦ absurd (true_not (err_deep A (true, ts) (false, left) h))
+      | goes x o h ↦
+          elim (fails_in ((f a).reads ts) (read_rounds kind first room f k) false left h) [
+            | inl g ↦
+                round kind first more further k a ts x (m a p) ∙ and_then-err ((further a).reads ts) false left (read_rounds kind first more further k) ((d a p).parse ts left g)
+            | inr s ↦
+                round kind first more further k a ts x (m a p)
+                ∙ (and_then-ok ((further a).reads ts) s.value s.mid (read_rounds kind first more further k) ((d a p).same ts s.value s.mid s.one)
+                ∙ rounds_parse P kind first room more f further m v d k s.value s.mid left ((v a p o).yields ts s.value s.mid s.one) s.other)
+          ]
     ]
 
 rounds_deep : {T A : Type 0} (P : A → Type 0) (kind : T → ℕ) (first : List ℕ) (room more : A → Bool) (f further : A → Grammar T A) → ((b : A) → P b → more b ≡ true) → ((b : A) → P b → room b ≡ true → Yields P (f b)) → ((b : A) → P b → Deeper (f b) (further b)) → ((b : A) → Enters kind first (further b)) → ((b : A) (ts : List T) → left_of ((further b).reads ts) ≤ length ts) → (k : ℕ) (a : A) (ts left : List T) → P a → read_rounds kind first room f k a ts ≡ Err (true, left) → left_of (read_rounds kind first more further k a ts) < length left
 rounds_deep P kind first room more f further m v d n y zero a ts left p e = absurd (not_both (a, ts) (true, left) e)
 rounds_deep {T = T} {A = A} P kind first room more f further m v d n y (suc k) a ts left p e =
     elim (turn kind first room f k a ts (Err (true, left)) e) [
-      stops x h ↦ absurd (not_both (a, ts) (true, left) h)
-    | too_deep x o h ↦
-        let enters = (n a).enters ts x in
-        let here : length ts ≡ length left = ap length (err_left A (true, ts) (true, left) h) in
-        wide_left x (omega arith)
-    | goes x o h ↦
-        elim (fails_in ((f a).reads ts) (read_rounds kind first room f k) true left h) [
-          inl g ↦ wide_left x ((d a p).deep ts left g)
-        | inr s ↦
-            let there = round kind first more further k a ts x (m a p) ∙ and_then-ok ((further a).reads ts) s.value s.mid (read_rounds kind first more further k) ((d a p).same ts s.value s.mid s.one) in
-            subst (λ (r : Read T A). left_of r < length left) (sym there)
-            (rounds_deep P kind first room more f further m v d n y k s.value s.mid left ((v a p o).yields ts s.value s.mid s.one) s.other)
-        ]
+      | stops x h ↦ absurd (not_both (a, ts) (true, left) h)
+      | too_deep x o h ↦
+          let enters = (n a).enters ts x in
+          let here : length ts ≡ length left = ap length (err_left A (true, ts) (true, left) h) in
+          wide_left x (omega arith)
+      | goes x o h ↦
+          elim (fails_in ((f a).reads ts) (read_rounds kind first room f k) true left h) [
+            | inl g ↦ wide_left x ((d a p).deep ts left g)
+            | inr s ↦
+                let there = round kind first more further k a ts x (m a p) ∙ and_then-ok ((further a).reads ts) s.value s.mid (read_rounds kind first more further k) ((d a p).same ts s.value s.mid s.one) in
+                subst (λ (r : Read T A). left_of r < length left) (sym there)
+                (rounds_deep P kind first room more f further m v d n y k s.value s.mid left ((v a p o).yields ts s.value s.mid s.one) s.other)
+          ]
     ]
   where
     wide_left : begins kind first ts ≡ true → left_of ((further a).reads ts) < length left → left_of (read_rounds kind first more further (suc k) a ts) < length left

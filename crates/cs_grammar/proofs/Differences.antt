@@ -1,15 +1,15 @@
 -- The example's grammar is exact.
-use Rattle.std.proofs.Common.{◌≡◌, ℕ, zero, suc, Bool, true, false, List, [], ◌∷◌, is_some, unwrap_or, refl}
+use Rattle.std.proofs.Common.{◌≡◌, ℕ, zero, suc, true, false, List, [], ◌∷◌, is_some, unwrap_or, refl}
 use Rattle.cs_grammar.specs.declared.example.Token.{Token}
 use Rattle.cs_grammar.specs.declared.example.Token.TheVariants as token
 use Rattle.cs_grammar.specs.declared.example.Form.{Form}
 use Rattle.cs_grammar.specs.declared.example.Form.TheVariants.{Difference, Cast}
 use Rattle.cs_grammar.specs.Kinds.{has}
-use Rattle.cs_grammar.specs.Grammar.{Grammar, gives, one, ◌>>=◌, either, limited, choice, turns}
+use Rattle.cs_grammar.specs.Grammar.{Grammar, gives, ◌>>=◌}
 use Rattle.cs_grammar.specs.Exact.{Exact}
 use Rattle.cs_grammar.specs.Whole.{Deeper}
-use Rattle.cs_grammar.specs.Levels.{Yields, Enters}
-use Rattle.cs_grammar.specs.Differences.{name, number, minus, bracket, unbracket, kind_of, operand_kinds, sign, form_of, leaf, name_of, minus_one, difference_of, casting, parenthesized, operand_at, difference_at}
+use Rattle.cs_grammar.specs.Levels.{Enters}
+use Rattle.cs_grammar.specs.Differences.{name, number, minus, bracket, unbracket, kind_of, operand_kinds, sign, form_of, leaf, name_of, minus_one, difference_of, casting, closed, parenthesized, operand_at, difference_at}
 use Rattle.cs_grammar.proofs.Basics.{exact_gives, exact_one, wider}
 use Rattle.cs_grammar.proofs.Bind.{then}
 use Rattle.cs_grammar.proofs.Either.{or}
@@ -36,12 +36,18 @@ exact_difference o = wider refl refl (then o refl (λ first. repeat (minus ∷ [
 exact_casting : {operand : Grammar Token Form} (n : ℕ) → Exact kind_of operand operand_kinds operand_kinds false → Exact kind_of (casting operand n) operand_kinds operand_kinds false
 exact_casting n o = wider refl refl (then o refl (λ a. exact_gives _))
 
-exact_parenthesized : {operand : Grammar Token Form} → Exact kind_of operand operand_kinds operand_kinds false → Exact kind_of (parenthesized operand) (bracket ∷ []) operand_kinds false
-exact_parenthesized o =
+exact_closed : {operand : Grammar Token Form} (inner : Form) → Exact kind_of operand operand_kinds operand_kinds false → Exact kind_of (closed operand inner) (unbracket ∷ []) operand_kinds false
+exact_closed inner o =
     wider refl refl
-    (then (exact_sign bracket token.Open refl) refl
-    (λ _. then (exact_difference o) refl
-    (λ inner. then (exact_sign unbracket token.Close refl) refl (λ _. choose operand_kinds (is_some (name_of inner)) refl refl (exact_casting (unwrap_or (name_of inner) 0) o) (exact_gives inner)))))
+    (then (exact_sign unbracket token.Close refl) refl
+    (λ _. choose operand_kinds (is_some (name_of inner)) refl refl (exact_casting (unwrap_or (name_of inner) 0) o) (exact_gives inner)))
+
+-- what stands behind an opening parenthesis
+exact_inside : {operand : Grammar Token Form} → Exact kind_of operand operand_kinds operand_kinds false → Exact kind_of (do inner ← difference_of operand; closed operand inner) operand_kinds operand_kinds false
+exact_inside o = wider refl refl (then (exact_difference o) refl (λ inner. exact_closed inner o))
+
+exact_parenthesized : {operand : Grammar Token Form} → Exact kind_of operand operand_kinds operand_kinds false → Exact kind_of (parenthesized operand) (bracket ∷ []) operand_kinds false
+exact_parenthesized o = wider refl refl (then (exact_sign bracket token.Open refl) refl (λ _. exact_inside o))
 
 pub exact_operand : (depth : ℕ) → Exact kind_of (operand_at depth) operand_kinds operand_kinds false
 exact_operand zero = wider refl refl (within (bracket ∷ []) refl exact_leaf)
@@ -75,26 +81,18 @@ deeper_difference : {operand wide : Grammar Token Form} → Exact kind_of wide o
 deeper_difference {operand = operand} {wide = wide} x d =
     deeper_then d (yields_any operand)
     (λ first _.
-      deeper_turns {P = λ _. Unit {0}} {f = minus_one operand} (minus ∷ []) (λ _. true) (λ _. true) first tt (λ _ _. refl) (λ left _ _. yields_any (minus_one operand left))
-      (λ left _. deeper_minus_one left x d) (λ left. enters_minus_one left x) (λ left. exact_minus_one left x))
+    deeper_turns {P = λ _. Unit {0}} {f = minus_one operand} (minus ∷ []) (λ _. true) (λ _. true) first tt (λ _ _. refl) (λ left _ _. yields_any (minus_one operand left))
+    (λ left _. deeper_minus_one left x d) (λ left. enters_minus_one left x) (λ left. exact_minus_one left x))
     (λ first. repeat (minus ∷ []) (λ _. true) first refl refl (λ left. exact_minus_one left x))
-
-exact_closed : {operand : Grammar Token Form} (inner : Form) → Exact kind_of operand operand_kinds operand_kinds false → Exact kind_of (do _ ← sign unbracket; choice kind_of (is_some (name_of inner)) operand_kinds (casting operand (unwrap_or (name_of inner) 0)) (gives inner)) (unbracket ∷ []) operand_kinds false
-exact_closed inner o =
-    wider refl refl (then (exact_sign unbracket token.Close refl) refl (λ _. choose operand_kinds (is_some (name_of inner)) refl refl (exact_casting (unwrap_or (name_of inner) 0) o) (exact_gives inner)))
 
 deeper_casting : {operand wide : Grammar Token Form} (n : ℕ) → Deeper operand wide → Deeper (casting operand n) (casting wide n)
 deeper_casting {operand = operand} n d = deeper_then d (yields_any operand) (λ a _. deeper_gives (Cast n a)) (λ a. exact_gives {kind = kind_of} (Cast n a))
 
-deeper_closed : {operand wide : Grammar Token Form} (inner : Form) → Exact kind_of wide operand_kinds operand_kinds false → Deeper operand wide → Deeper (do _ ← sign unbracket; choice kind_of (is_some (name_of inner)) operand_kinds (casting operand (unwrap_or (name_of inner) 0)) (gives inner)) (do _ ← sign unbracket; choice kind_of (is_some (name_of inner)) operand_kinds (casting wide (unwrap_or (name_of inner) 0)) (gives inner))
+deeper_closed : {operand wide : Grammar Token Form} (inner : Form) → Exact kind_of wide operand_kinds operand_kinds false → Deeper operand wide → Deeper (closed operand inner) (closed wide inner)
 deeper_closed inner x d =
     deeper_then (deeper_sign unbracket) (yields_any (sign unbracket))
     (λ _ _. deeper_choose kind_of operand_kinds (is_some (name_of inner)) (deeper_casting (unwrap_or (name_of inner) 0) d) (deeper_gives inner))
     (λ _. choose operand_kinds (is_some (name_of inner)) refl refl (exact_casting (unwrap_or (name_of inner) 0) x) (exact_gives inner))
-
--- what stands behind an opening parenthesis
-exact_inside : {operand : Grammar Token Form} → Exact kind_of operand operand_kinds operand_kinds false → Exact kind_of (do inner ← difference_of operand; _ ← sign unbracket; choice kind_of (is_some (name_of inner)) operand_kinds (casting operand (unwrap_or (name_of inner) 0)) (gives inner)) operand_kinds operand_kinds false
-exact_inside x = wider refl refl (then (exact_difference x) refl (λ inner. exact_closed inner x))
 
 enters_parenthesized : {operand : Grammar Token Form} → Exact kind_of operand operand_kinds operand_kinds false → Enters kind_of (bracket ∷ []) (parenthesized operand)
 enters_parenthesized x = enters_then (enters_one (bracket ∷ []) (λ _. tt)) (λ _. exact_inside x)

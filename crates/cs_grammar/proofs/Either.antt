@@ -1,10 +1,9 @@
 -- One or the other.
-use Rattle.std.proofs.Common.{◌≡◌, ◌⊎◌, inl, inr, ℕ, Bool, true, false, cond, ◌||◌, List, [], ◌∷◌, ◌++◌, refl, sym, ◌∙◌, ap, subst, Result, Ok, Err}
-use Rattle.cs_grammar.specs.Kinds.{has, begins, disjoint, subset}
-use Rattle.cs_grammar.specs.Grammar.{Read, Grammar, either, limited, guarded, choice}
-use Rattle.cs_grammar.specs.Exact.{Starts, Alike, Fits, Taken, Moved, Stuck, Lives, Exact}
-use Rattle.cs_grammar.proofs.Sets.{is_not, has-left, has-right, disjoint-lacks_back, subset-has, begins-left, begins-right, begins-alike, alike_self, alike_behind}
-use Rattle.cs_grammar.proofs.Basics.{ok, err, ok_value, ok_rest, err_deep, err_left, err_same, not_both}
+use Rattle.std.proofs.Common.{◌≡◌, ◌⊎◌, inl, inr, ℕ, Bool, true, false, cond, List, [], ◌∷◌, ◌++◌, refl, sym, ◌∙◌, ap, subst, Ok, Err}
+use Rattle.cs_grammar.specs.Kinds.{begins, disjoint, subset}
+use Rattle.cs_grammar.specs.Grammar.{Grammar, either}
+use Rattle.cs_grammar.specs.Exact.{Starts, Alike, Fits, Taken, Moved, Stuck, Exact}
+use Rattle.cs_grammar.proofs.Sets.{has-left, has-right, disjoint-lacks_back, subset-has, begins-left, begins-right, begins-alike, alike_behind}
 
 picks : {T A : Type 0} (kind : T → ℕ) (first : List ℕ) (g h : Grammar T A) (ts : List T) (b : Bool) → begins kind first ts ≡ b → (either kind first g h).reads ts ≡ cond b (g.reads ts) (h.reads ts)
 picks kind first g h ts b e = ap (λ c. cond c (g.reads ts) (h.reads ts)) e
@@ -51,10 +50,10 @@ or {T = T} {A = A} {kind = kind} {g = g} {h = h} {xs = xs} {ys = ys} {v = v} {w 
       moves = λ ts a rest e. moves_at ts a rest (begins kind first ts) refl e;
       stuck = λ ts deep left e. stuck_at ts deep left (begins kind first ts) refl e;
       lives =
-        let p = x.lives in
-        let m = x.moves p.text p.value [] p.whole in
-        let b : begins kind first p.text ≡ true = front_begins kind xs first p.text [] s (record { front = m.front; split = m.split; starts = m.starts }) in
-        record { text = p.text; value = p.value; whole = picks kind first g h p.text true b ∙ p.whole };
+          let p = x.lives in
+          let m = x.moves p.text p.value [] p.whole in
+          let b : begins kind first p.text ≡ true = front_begins kind xs first p.text [] s (record { front = m.front; split = m.split; starts = m.starts }) in
+          record { text = p.text; value = p.value; whole = picks kind first g h p.text true b ∙ p.whole };
     }
   where
     sound_at : (ts : List T) (a : A) (rest : List T) (b : Bool) → begins kind first ts ≡ b → (either kind first g h).reads ts ≡ Ok (a, rest) → g.derives ts a rest ⊎ h.derives ts a rest
@@ -69,7 +68,7 @@ or {T = T} {A = A} {kind = kind} {g = g} {h = h} {xs = xs} {ys = ys} {v = v} {w 
         let k = y.heads ts a rest p in
         let behind = begins-right kind v (w ++ cond null first []) rest e in
         let free : begins kind first ts ≡ false =
-            subst (λ us. begins kind first us ≡ false) (sym k.split) (front_begins_not kind ys first null k.front rest d k.starts (begins-right kind w (cond null first []) rest behind))
+        subst (λ us. begins kind first us ≡ false) (sym k.split) (front_begins_not kind ys first null k.front rest d k.starts (begins-right kind w (cond null first []) rest behind))
         in
         picks kind first g h ts false free ∙ y.again ts a rest p (begins-left kind w (cond null first []) rest behind)
 
@@ -95,8 +94,8 @@ or {T = T} {A = A} {kind = kind} {g = g} {h = h} {xs = xs} {ys = ys} {v = v} {w 
           split = m.split;
           starts = starts_first kind xs ys null m.front m.starts;
           again = λ other fits.
-            picks kind first g h (m.front ++ other) true (front_begins kind xs first (m.front ++ other) other s (record { front = m.front; split = refl; starts = m.starts }))
-            ∙ m.again other (fits_part kind v (v ++ (w ++ cond null first [])) rest other (begins-left kind v (w ++ cond null first []) other) fits);
+              picks kind first g h (m.front ++ other) true (front_begins kind xs first (m.front ++ other) other s (record { front = m.front; split = refl; starts = m.starts }))
+              ∙ m.again other (fits_part kind v (v ++ (w ++ cond null first [])) rest other (begins-left kind v (w ++ cond null first []) other) fits);
         }
     moves_at ts a rest false is e =
         let m = y.moves ts a rest (sym (picks kind first g h ts false is) ∙ e) in
@@ -105,8 +104,8 @@ or {T = T} {A = A} {kind = kind} {g = g} {h = h} {xs = xs} {ys = ys} {v = v} {w 
           split = m.split;
           starts = starts_second kind xs ys null m.front m.starts;
           again = λ other fits.
-            picks kind first g h (m.front ++ other) false (still_second m.front rest other (subst (λ us. begins kind first us ≡ false) m.split is) m.starts fits)
-            ∙ m.again other (fits_part kind w (v ++ (w ++ cond null first [])) rest other (λ n. begins-left kind w (cond null first []) other (begins-right kind v (w ++ cond null first []) other n)) fits);
+              picks kind first g h (m.front ++ other) false (still_second m.front rest other (subst (λ us. begins kind first us ≡ false) m.split is) m.starts fits)
+              ∙ m.again other (fits_part kind w (v ++ (w ++ cond null first [])) rest other (λ n. begins-left kind w (cond null first []) other (begins-right kind v (w ++ cond null first []) other n)) fits);
         }
 
     -- what the first reads from its front on
@@ -127,8 +126,8 @@ or {T = T} {A = A} {kind = kind} {g = g} {h = h} {xs = xs} {ys = ys} {v = v} {w 
           front = k.front;
           split = k.split;
           same = λ other alike.
-            picks kind first g h (k.front ++ other) true (begins_same kind first k.front left other alike ∙ subst (λ us. begins kind first us ≡ true) k.split is)
-            ∙ k.same other alike;
+              picks kind first g h (k.front ++ other) true (begins_same kind first k.front left other alike ∙ subst (λ us. begins kind first us ≡ true) k.split is)
+              ∙ k.same other alike;
           onward = k.onward;
           value = k.value;
           whole = whole_first (k.front ++ k.onward) k.value k.whole;
@@ -139,8 +138,8 @@ or {T = T} {A = A} {kind = kind} {g = g} {h = h} {xs = xs} {ys = ys} {v = v} {w 
           front = k.front;
           split = k.split;
           same = λ other alike.
-            picks kind first g h (k.front ++ other) false (begins_same kind first k.front left other alike ∙ subst (λ us. begins kind first us ≡ false) k.split is)
-            ∙ k.same other alike;
+              picks kind first g h (k.front ++ other) false (begins_same kind first k.front left other alike ∙ subst (λ us. begins kind first us ≡ false) k.split is)
+              ∙ k.same other alike;
           onward = k.onward;
           value = k.value;
           whole = whole_second (k.front ++ k.onward) k.value k.whole;

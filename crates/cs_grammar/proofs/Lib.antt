@@ -7,3 +7,4 @@ pub mod Turns
 pub mod Whole
 pub mod Deeper
 pub mod Differences
+pub mod Readings

@@ -1,10 +1,10 @@
 -- What depth leaves no room for, and what was read before doesn't allow.
-use Rattle.std.proofs.Common.{◌≡◌, ◌⊎◌, inl, inr, ℕ, Bool, true, false, cond, List, [], ◌∷◌, ◌++◌, refl, sym, ◌∙◌, ap, subst, Result, Ok, Err}
-use Rattle.cs_grammar.specs.Kinds.{has, begins, disjoint, subset}
-use Rattle.cs_grammar.specs.Grammar.{Read, Grammar, either, limited, guarded, choice}
-use Rattle.cs_grammar.specs.Exact.{Starts, Alike, Fits, Taken, Moved, Stuck, Lives, Exact}
-use Rattle.cs_grammar.proofs.Sets.{has-left, has-right, begins-left, begins-right, begins-alike, alike_self}
-use Rattle.cs_grammar.proofs.Basics.{ok, err, err_deep, err_left, not_both, wider}
+use Rattle.std.proofs.Common.{◌≡◌, inl, inr, ℕ, Bool, true, false, cond, List, [], ◌∷◌, ◌++◌, refl, sym, ◌∙◌, ap, subst, Ok, Err}
+use Rattle.cs_grammar.specs.Kinds.{begins, disjoint, subset}
+use Rattle.cs_grammar.specs.Grammar.{Grammar, limited, guarded, choice}
+use Rattle.cs_grammar.specs.Exact.{Starts, Fits, Moved, Stuck, Exact}
+use Rattle.cs_grammar.proofs.Sets.{has-right, begins-left, begins-right, begins-alike}
+use Rattle.cs_grammar.proofs.Basics.{err, err_deep, err_left, not_both}
 use Rattle.cs_grammar.proofs.Either.{or, front_begins_not, begins_same, fits_part}
 
 tests : {T A : Type 0} (kind : T → ℕ) (kinds : List ℕ) (h : Grammar T A) (ts : List T) (b : Bool) → begins kind kinds ts ≡ b → (limited kind kinds h).reads ts ≡ cond b (Err (true, ts)) (h.reads ts)
@@ -15,11 +15,11 @@ within {T = T} {A = A} {kind = kind} {h = h} {ys = ys} {w = w} {null = null} kin
     record {
       sound = λ ts a rest e. y.sound ts a rest (reads_so ts a rest (begins kind kinds ts) refl e).1;
       again = λ ts a rest p e.
-        let k = y.heads ts a rest p in
-        let free : begins kind kinds ts ≡ false =
-            subst (λ us. begins kind kinds us ≡ false) (sym k.split) (front_begins_not kind ys kinds null k.front rest d k.starts (begins-right kind w (cond null kinds []) rest e))
-        in
-        tests kind kinds h ts false free ∙ y.again ts a rest p (begins-left kind w (cond null kinds []) rest e);
+          let k = y.heads ts a rest p in
+          let free : begins kind kinds ts ≡ false =
+          subst (λ us. begins kind kinds us ≡ false) (sym k.split) (front_begins_not kind ys kinds null k.front rest d k.starts (begins-right kind w (cond null kinds []) rest e))
+          in
+          tests kind kinds h ts false free ∙ y.again ts a rest p (begins-left kind w (cond null kinds []) rest e);
       heads = y.heads;
       moves = moves;
       stuck = λ ts deep left e. stuck_at ts deep left (begins kind kinds ts) refl e;
@@ -48,8 +48,8 @@ within {T = T} {A = A} {kind = kind} {h = h} {ys = ys} {w = w} {null = null} kin
           split = m.split;
           starts = m.starts;
           again = λ other fits.
-            tests kind kinds h (m.front ++ other) false (still m.front rest other (subst (λ us. begins kind kinds us ≡ false) m.split so.0) m.starts fits)
-            ∙ m.again other (fits_part kind w (w ++ cond null kinds []) rest other (begins-left kind w (cond null kinds []) other) fits);
+              tests kind kinds h (m.front ++ other) false (still m.front rest other (subst (λ us. begins kind kinds us ≡ false) m.split so.0) m.starts fits)
+              ∙ m.again other (fits_part kind w (w ++ cond null kinds []) rest other (begins-left kind w (cond null kinds []) other) fits);
         }
 
     stuck_at : (ts : List T) (deep : Bool) (left : List T) (b : Bool) → begins kind kinds ts ≡ b → (limited kind kinds h).reads ts ≡ Err (deep, left) → Stuck kind (limited kind kinds h) ts deep left
@@ -61,8 +61,8 @@ within {T = T} {A = A} {kind = kind} {h = h} {ys = ys} {w = w} {null = null} kin
           front = [];
           split = here;
           same = λ other alike.
-            tests kind kinds h other true (begins-alike kind kinds left other alike ∙ subst (λ us. begins kind kinds us ≡ true) here is)
-            ∙ ap (λ b. err (b, other)) (err_deep A (true, ts) (deep, left) same);
+              tests kind kinds h other true (begins-alike kind kinds left other alike ∙ subst (λ us. begins kind kinds us ≡ true) here is)
+              ∙ ap (λ b. err (b, other)) (err_deep A (true, ts) (deep, left) same);
           onward = p.text;
           value = p.value;
           whole = whole p.text p.value p.whole;
@@ -73,8 +73,8 @@ within {T = T} {A = A} {kind = kind} {h = h} {ys = ys} {w = w} {null = null} kin
           front = k.front;
           split = k.split;
           same = λ other alike.
-            tests kind kinds h (k.front ++ other) false (begins_same kind kinds k.front left other alike ∙ subst (λ us. begins kind kinds us ≡ false) k.split is)
-            ∙ k.same other alike;
+              tests kind kinds h (k.front ++ other) false (begins_same kind kinds k.front left other alike ∙ subst (λ us. begins kind kinds us ≡ false) k.split is)
+              ∙ k.same other alike;
           onward = k.onward;
           value = k.value;
           whole = whole (k.front ++ k.onward) k.value k.whole;
@@ -92,16 +92,16 @@ padded {kind = kind} {g = g} {ys = ys} {w = w} {null = null} xs v x =
       sound = x.sound;
       again = λ ts a rest d n. x.again ts a rest d (begins-right kind v w rest n);
       heads = λ ts a rest d.
-        let h = x.heads ts a rest d in
-        record { front = h.front; split = h.split; starts = shown_first kind xs ys null h.front h.starts };
+          let h = x.heads ts a rest d in
+          record { front = h.front; split = h.split; starts = shown_first kind xs ys null h.front h.starts };
       moves = λ ts a rest e.
-        let m = x.moves ts a rest e in
-        record {
-          front = m.front;
-          split = m.split;
-          starts = shown_first kind xs ys null m.front m.starts;
-          again = λ other fits. m.again other (fits_part kind w (v ++ w) rest other (begins-right kind v w other) fits);
-        };
+          let m = x.moves ts a rest e in
+          record {
+            front = m.front;
+            split = m.split;
+            starts = shown_first kind xs ys null m.front m.starts;
+            again = λ other fits. m.again other (fits_part kind w (v ++ w) rest other (begins-right kind v w other) fits);
+          };
       stuck = x.stuck;
       lives = x.lives;
     }
@@ -121,13 +121,13 @@ choose {kind = kind} {h = h} {xs = xs} {ys = ys} {v = v} {w = w} {null = null} f
           again = λ ts a rest p n. z.again ts a rest p (begins-left kind w (cond null first []) rest n);
           heads = z.heads;
           moves = λ ts a rest e.
-            let m = z.moves ts a rest e in
-            record {
-              front = m.front;
-              split = m.split;
-              starts = m.starts;
-              again = λ other fits. m.again other (fits_part kind w (w ++ cond null first []) rest other (begins-left kind w (cond null first []) other) fits);
-            };
+              let m = z.moves ts a rest e in
+              record {
+                front = m.front;
+                split = m.split;
+                starts = m.starts;
+                again = λ other fits. m.again other (fits_part kind w (w ++ cond null first []) rest other (begins-left kind w (cond null first []) other) fits);
+              };
           stuck = z.stuck;
           lives = z.lives;
         }

@@ -1,8 +1,8 @@
 -- What the tests on kinds tell.
-use Rattle.std.proofs.Common.{◌≡◌, ◌⊎◌, inl, inr, ℕ, Bool, true, false, cond, not, ◌&&◌, ◌||◌, ◌==◌, List, [], ◌∷◌, ◌++◌, refl, sym, ◌∙◌, ap, subst}
+use Rattle.std.proofs.Common.{◌≡◌, ◌⊎◌, inl, inr, ℕ, Bool, true, false, not, ◌&&◌, ◌||◌, ◌==◌, List, [], ◌∷◌, ◌++◌, refl, sym, ◌∙◌, ap, subst}
 use Rattle.std.proofs.lemmas.Bool.{eqb-true}
 use Rattle.cs_grammar.specs.Kinds.{has, begins, disjoint, subset}
-use Rattle.cs_grammar.specs.Exact.{Alike, Fits, Starts}
+use Rattle.cs_grammar.specs.Exact.{Alike}
 
 pub or_true : (a b : Bool) → (a || b) ≡ true → (a ≡ true) ⊎ (b ≡ true)
 or_true true b e = inl refl
@@ -67,8 +67,8 @@ pub disjoint-lacks : (xs ys : List ℕ) (k : ℕ) → disjoint xs ys ≡ true �
 disjoint-lacks [] ys k d h = cc
 disjoint-lacks (x ∷ xs) ys k d h =
     elim (or_true (x == k) (has xs k) h) [
-      inl e ↦ not_true (has ys k) (subst (λ z. not (has ys z) ≡ true) (eqb-true x k e) (and_first (not (has ys x)) (disjoint xs ys) d))
-    | inr e ↦ disjoint-lacks xs ys k (and_second (not (has ys x)) (disjoint xs ys) d) e
+      | inl e ↦ not_true (has ys k) (subst (λ z. not (has ys z) ≡ true) (eqb-true x k e) (and_first (not (has ys x)) (disjoint xs ys) d))
+      | inr e ↦ disjoint-lacks xs ys k (and_second (not (has ys x)) (disjoint xs ys) d) e
     ]
 
 pub disjoint-lacks_back : (xs ys : List ℕ) (k : ℕ) → disjoint xs ys ≡ true → has ys k ≡ true → has xs k ≡ false
@@ -82,8 +82,8 @@ pub subset-has : (xs ys : List ℕ) (k : ℕ) → subset xs ys ≡ true → has 
 subset-has [] ys k s h = cc
 subset-has (x ∷ xs) ys k s h =
     elim (or_true (x == k) (has xs k) h) [
-      inl e ↦ subst (λ z. has ys z ≡ true) (eqb-true x k e) (and_first (has ys x) (subset xs ys) s)
-    | inr e ↦ subset-has xs ys k (and_second (has ys x) (subset xs ys) s) e
+      | inl e ↦ subst (λ z. has ys z ≡ true) (eqb-true x k e) (and_first (has ys x) (subset xs ys) s)
+      | inr e ↦ subset-has xs ys k (and_second (has ys x) (subset xs ys) s) e
     ]
 
 pub subset-lacks : (xs ys : List ℕ) (k : ℕ) → subset xs ys ≡ true → has ys k ≡ false → has xs k ≡ false

@@ -1,13 +1,13 @@
 -- Some number of rounds.
-use Rattle.std.proofs.Common.{◌≡◌, ◌⊎◌, inl, inr, ℕ, zero, suc, ◌+◌, ◌-◌, ◌<◌, ◌≤◌, Bool, true, false, cond, List, [], ◌∷◌, ◌++◌, length, refl, sym, ◌∙◌, ap, subst, Result, Ok, Err, arith}
-use Rattle.std.proofs.lemmas.List.{append-nil, append_assoc, length-append}
-use Rattle.cs_grammar.specs.Kinds.{has, begins, disjoint, subset}
+use Rattle.std.proofs.Common.{◌≡◌, inl, inr, ℕ, zero, suc, ◌+◌, ◌-◌, ◌<◌, ◌≤◌, Bool, true, false, List, [], ◌∷◌, ◌++◌, length, refl, sym, ◌∙◌, ap, subst, Ok, Err, arith}
+use Rattle.std.proofs.lemmas.List.{append_assoc, length-append}
+use Rattle.cs_grammar.specs.Kinds.{begins, disjoint, subset}
 use Rattle.cs_grammar.specs.Grammar.{Read, Grammar, and_then, Rounds, read_rounds, turns}
-use Rattle.cs_grammar.specs.Exact.{Starts, Alike, Fits, Taken, Moved, Stuck, Lives, Exact}
+use Rattle.cs_grammar.specs.Exact.{Starts, Alike, Fits, Taken, Moved, Stuck, Exact}
 use Rattle.cs_grammar.proofs.Sets.{subset-has, begins-left, begins-right, begins-alike, alike_behind}
 use Rattle.cs_grammar.proofs.Basics.{ok, err, ok_value, ok_rest, err_deep, err_left, not_both}
-use Rattle.cs_grammar.proofs.Bind.{and_then-ok, and_then-err, both_of, fails_in, InSecond, before_fits, fits_left, starts_both}
-use Rattle.cs_grammar.proofs.Either.{front_begins, front_begins_not, begins_same}
+use Rattle.cs_grammar.proofs.Bind.{and_then-ok, and_then-err, both_of, fails_in, before_fits, fits_left}
+use Rattle.cs_grammar.proofs.Either.{front_begins_not, begins_same}
 
 -- one round of the reader, by what it meets
 
@@ -90,12 +90,12 @@ rounds_sound : {T A : Type 0} (kind : T → ℕ) (first : List ℕ) (room : A �
 rounds_sound kind first room f y zero a ts c rest e = (zero, (sym (ok_value (a, ts) (c, rest) e), sym (ok_rest (a, ts) (c, rest) e)))
 rounds_sound kind first room f y (suc k) a ts c rest e =
     elim (turn kind first room f k a ts (Ok (c, rest)) e) [
-      stops x h ↦ (zero, (sym (ok_value (a, ts) (c, rest) h), sym (ok_rest (a, ts) (c, rest) h)))
-    | too_deep x o h ↦ absurd (not_both (c, rest) (true, ts) (sym h))
-    | goes x o h ↦
-        let p = both_of ((f a).reads ts) (read_rounds kind first room f k) c rest h in
-        let more = rounds_sound kind first room f y k p.value p.mid c rest p.other in
-        (suc more.0, (p.value, p.mid, o, y a ts p.value p.mid p.one, more.1))
+      | stops x h ↦ (zero, (sym (ok_value (a, ts) (c, rest) h), sym (ok_rest (a, ts) (c, rest) h)))
+      | too_deep x o h ↦ absurd (not_both (c, rest) (true, ts) (sym h))
+      | goes x o h ↦
+          let p = both_of ((f a).reads ts) (read_rounds kind first room f k) c rest h in
+          let more = rounds_sound kind first room f y k p.value p.mid c rest p.other in
+          (suc more.0, (p.value, p.mid, o, y a ts p.value p.mid p.one, more.1))
     ]
 
 rounds_heads : {T A : Type 0} (kind : T → ℕ) (ys w : List ℕ) (room : A → Bool) (f : A → Grammar T A) → ((b : A) → Exact kind (f b) ys w false) → (n : ℕ) (a : A) (ts : List T) (c : A) (rest : List T) → Rounds room f n a ts c rest → Taken kind ys true ts rest
@@ -148,25 +148,25 @@ moved_round kind first ys w room f a ts b mid c rest s d o h r =
       split = joined ts h.front mid r.front rest h.split r.split;
       starts = starts_round kind ys h.front r.front h.starts;
       again = λ other m fits lm.
-        let first_fits : Fits kind w mid (r.front ++ other) =
-            subst (λ us. Fits kind w us (r.front ++ other)) (sym r.split) (before_fits kind w [] ys true r.front rest other d r.starts (fits_left kind w first rest other fits))
-        in
-        subst (λ us. read_rounds kind first room f m a us ≡ Ok (c, other)) (sym (append_assoc h.front r.front other))
-        (turn_on kind first ys room f m a b h.front (r.front ++ other) (Ok (c, other)) s h.starts o (h.again (r.front ++ other) first_fits) (subst (λ us. length us ≤ m) (append_assoc h.front r.front other) lm)
-        (λ j lj. r.again other j fits lj));
+          let first_fits : Fits kind w mid (r.front ++ other) =
+          subst (λ us. Fits kind w us (r.front ++ other)) (sym r.split) (before_fits kind w [] ys true r.front rest other d r.starts (fits_left kind w first rest other fits))
+          in
+          subst (λ us. read_rounds kind first room f m a us ≡ Ok (c, other)) (sym (append_assoc h.front r.front other))
+          (turn_on kind first ys room f m a b h.front (r.front ++ other) (Ok (c, other)) s h.starts o (h.again (r.front ++ other) first_fits) (subst (λ us. length us ≤ m) (append_assoc h.front r.front other) lm)
+          (λ j lj. r.again other j fits lj));
     }
 
 moved : {T A : Type 0} (kind : T → ℕ) (first ys w : List ℕ) (room : A → Bool) (f : A → Grammar T A) → subset ys first ≡ true → disjoint w ys ≡ true → ((b : A) → Exact kind (f b) ys w false) → (k : ℕ) (a : A) (ts : List T) (c : A) (rest : List T) → length ts ≤ k → read_rounds kind first room f k a ts ≡ Ok (c, rest) → MovedOn kind first ys w room f a ts c rest
 moved kind first ys w room f s d y zero a ts c rest le e = stopped kind first ys w room f a ts c rest (nothing kind first ts le) e
 moved kind first ys w room f s d y (suc k) a ts c rest le e =
     elim (turn kind first room f k a ts (Ok (c, rest)) e) [
-      stops x h ↦ stopped kind first ys w room f a ts c rest x h
-    | too_deep x o h ↦ absurd (not_both (c, rest) (true, ts) (sym h))
-    | goes x o h ↦
-        let p = both_of ((f a).reads ts) (read_rounds kind first room f k) c rest h in
-        let q = (y a).moves ts p.value p.mid p.one in
-        let more = moved kind first ys w room f s d y k p.value p.mid c rest (shorter kind ys ts q.front p.mid k q.starts q.split le) p.other in
-        moved_round kind first ys w room f a ts p.value p.mid c rest s d o q more
+      | stops x h ↦ stopped kind first ys w room f a ts c rest x h
+      | too_deep x o h ↦ absurd (not_both (c, rest) (true, ts) (sym h))
+      | goes x o h ↦
+          let p = both_of ((f a).reads ts) (read_rounds kind first room f k) c rest h in
+          let q = (y a).moves ts p.value p.mid p.one in
+          let more = moved kind first ys w room f s d y k p.value p.mid c rest (shorter kind ys ts q.front p.mid k q.starts q.split le) p.other in
+          moved_round kind first ys w room f a ts p.value p.mid c rest s d o q more
     ]
 
 -- where some rounds fail
@@ -178,8 +178,8 @@ deep_here {A = A} kind first room f a ts deep left x o e =
       front = [];
       split = here;
       same = λ other m alike lm.
-        no_room kind first room f m a other (begins-alike kind first left other alike ∙ subst (λ us. begins kind first us ≡ true) here x) o lm
-        ∙ ap (λ b. err (b, other)) (err_deep A (true, ts) (deep, left) e);
+          no_room kind first room f m a other (begins-alike kind first left other alike ∙ subst (λ us. begins kind first us ≡ true) here x) o lm
+          ∙ ap (λ b. err (b, other)) (err_deep A (true, ts) (deep, left) e);
       onward = [];
       value = a;
       whole = λ m lm. stop kind first room f m a [] refl;
@@ -191,14 +191,14 @@ fails_here kind first ys w room f a ts deep left s y x o k =
       front = k.front;
       split = k.split;
       same = λ other m alike lm.
-        fail_on kind first room f m a (k.front ++ other) deep other (begins_same kind first k.front left other alike ∙ subst (λ us. begins kind first us ≡ true) k.split x) o (k.same other alike) lm;
+          fail_on kind first room f m a (k.front ++ other) deep other (begins_same kind first k.front left other alike ∙ subst (λ us. begins kind first us ≡ true) k.split x) o (k.same other alike) lm;
       onward = k.onward;
       value = k.value;
       whole = λ m lm.
-        let q = y.moves (k.front ++ k.onward) k.value [] k.whole in
-        let read : (f a).reads (q.front ++ []) ≡ Ok (k.value, []) = subst (λ us. (f a).reads us ≡ Ok (k.value, [])) q.split k.whole in
-        subst (λ us. read_rounds kind first room f m a us ≡ Ok (k.value, [])) (sym q.split)
-        (turn_on kind first ys room f m a k.value q.front [] (Ok (k.value, [])) s q.starts o read (subst (λ us. length us ≤ m) q.split lm) (λ j lj. stop kind first room f j k.value [] refl));
+          let q = y.moves (k.front ++ k.onward) k.value [] k.whole in
+          let read : (f a).reads (q.front ++ []) ≡ Ok (k.value, []) = subst (λ us. (f a).reads us ≡ Ok (k.value, [])) q.split k.whole in
+          subst (λ us. read_rounds kind first room f m a us ≡ Ok (k.value, [])) (sym q.split)
+          (turn_on kind first ys room f m a k.value q.front [] (Ok (k.value, [])) s q.starts o read (subst (λ us. length us ≤ m) q.split lm) (λ j lj. stop kind first room f j k.value [] refl));
     }
 
 onward_fits : {T : Type 0} (kind : T → ℕ) (ys w : List ℕ) (us left vs ws : List T) → disjoint w ys ≡ true → Starts kind ys true ws → us ++ vs ≡ ws ++ [] → Fits kind w (us ++ left) (us ++ vs)
@@ -211,37 +211,37 @@ fails_later kind first ys w room f a ts b mid deep left s d y o h r =
       front = h.front ++ r.front;
       split = joined ts h.front mid r.front left h.split r.split;
       same = λ other m alike lm.
-        let first_fits : Fits kind w mid (r.front ++ other) = inr (subst (λ us. Alike kind us (r.front ++ other)) (sym r.split) (alike_behind kind r.front left other alike)) in
-        subst (λ us. read_rounds kind first room f m a us ≡ Err (deep, other)) (sym (append_assoc h.front r.front other))
-        (turn_on kind first ys room f m a b h.front (r.front ++ other) (Err (deep, other)) s h.starts o (h.again (r.front ++ other) first_fits) (subst (λ us. length us ≤ m) (append_assoc h.front r.front other) lm)
-        (λ j lj. r.same other j alike lj));
+          let first_fits : Fits kind w mid (r.front ++ other) = inr (subst (λ us. Alike kind us (r.front ++ other)) (sym r.split) (alike_behind kind r.front left other alike)) in
+          subst (λ us. read_rounds kind first room f m a us ≡ Err (deep, other)) (sym (append_assoc h.front r.front other))
+          (turn_on kind first ys room f m a b h.front (r.front ++ other) (Err (deep, other)) s h.starts o (h.again (r.front ++ other) first_fits) (subst (λ us. length us ≤ m) (append_assoc h.front r.front other) lm)
+          (λ j lj. r.same other j alike lj));
       onward = r.onward;
       value = r.value;
       whole = λ m lm.
-        let n = length (r.front ++ r.onward) in
-        let q = moved kind first ys w room f s d y n b (r.front ++ r.onward) r.value [] (omega arith) (r.whole n (omega arith)) in
-        let first_fits : Fits kind w mid (r.front ++ r.onward) =
-            subst (λ us. Fits kind w us (r.front ++ r.onward)) (sym r.split) (onward_fits kind ys w r.front left r.onward q.front d q.starts q.split)
-        in
-        subst (λ us. read_rounds kind first room f m a us ≡ Ok (r.value, [])) (sym (append_assoc h.front r.front r.onward))
-        (turn_on kind first ys room f m a b h.front (r.front ++ r.onward) (Ok (r.value, [])) s h.starts o (h.again (r.front ++ r.onward) first_fits) (subst (λ us. length us ≤ m) (append_assoc h.front r.front r.onward) lm)
-        (λ j lj. r.whole j lj));
+          let n = length (r.front ++ r.onward) in
+          let q = moved kind first ys w room f s d y n b (r.front ++ r.onward) r.value [] (omega arith) (r.whole n (omega arith)) in
+          let first_fits : Fits kind w mid (r.front ++ r.onward) =
+          subst (λ us. Fits kind w us (r.front ++ r.onward)) (sym r.split) (onward_fits kind ys w r.front left r.onward q.front d q.starts q.split)
+          in
+          subst (λ us. read_rounds kind first room f m a us ≡ Ok (r.value, [])) (sym (append_assoc h.front r.front r.onward))
+          (turn_on kind first ys room f m a b h.front (r.front ++ r.onward) (Ok (r.value, [])) s h.starts o (h.again (r.front ++ r.onward) first_fits) (subst (λ us. length us ≤ m) (append_assoc h.front r.front r.onward) lm)
+          (λ j lj. r.whole j lj));
     }
 
 fails : {T A : Type 0} (kind : T → ℕ) (first ys w : List ℕ) (room : A → Bool) (f : A → Grammar T A) → subset ys first ≡ true → disjoint w ys ≡ true → ((b : A) → Exact kind (f b) ys w false) → (k : ℕ) (a : A) (ts : List T) (deep : Bool) (left : List T) → length ts ≤ k → read_rounds kind first room f k a ts ≡ Err (deep, left) → StuckOn kind first room f a ts deep left
 fails kind first ys w room f s d y zero a ts deep left le e = absurd (not_both (a, ts) (deep, left) e)
 fails kind first ys w room f s d y (suc k) a ts deep left le e =
     elim (turn kind first room f k a ts (Err (deep, left)) e) [
-      stops x h ↦ absurd (not_both (a, ts) (deep, left) h)
-    | too_deep x o h ↦ deep_here kind first room f a ts deep left x o h
-    | goes x o h ↦
-        elim (fails_in ((f a).reads ts) (read_rounds kind first room f k) deep left h) [
-          inl g ↦ fails_here kind first ys w room f a ts deep left s (y a) x o ((y a).stuck ts deep left g)
-        | inr p ↦
-            let q = (y a).moves ts p.value p.mid p.one in
-            let more = fails kind first ys w room f s d y k p.value p.mid deep left (shorter kind ys ts q.front p.mid k q.starts q.split le) p.other in
-            fails_later kind first ys w room f a ts p.value p.mid deep left s d y o q more
-        ]
+      | stops x h ↦ absurd (not_both (a, ts) (deep, left) h)
+      | too_deep x o h ↦ deep_here kind first room f a ts deep left x o h
+      | goes x o h ↦
+          elim (fails_in ((f a).reads ts) (read_rounds kind first room f k) deep left h) [
+            | inl g ↦ fails_here kind first ys w room f a ts deep left s (y a) x o ((y a).stuck ts deep left g)
+            | inr p ↦
+                let q = (y a).moves ts p.value p.mid p.one in
+                let more = fails kind first ys w room f s d y k p.value p.mid deep left (shorter kind ys ts q.front p.mid k q.starts q.split le) p.other in
+                fails_later kind first ys w room f a ts p.value p.mid deep left s d y o q more
+          ]
     ]
 
 pub repeat : {T A : Type 0} {kind : T → ℕ} {f : A → Grammar T A} {ys w : List ℕ} (first : List ℕ) (room : A → Bool) (a : A) → subset ys first ≡ true → disjoint w ys ≡ true → ((b : A) → Exact kind (f b) ys w false) → Exact kind (turns kind first room f a) ys (w ++ first) true
@@ -251,23 +251,23 @@ repeat {kind = kind} {f = f} {ys = ys} {w = w} first room a s d y =
       again = λ ts c rest p e. rounds_again kind first ys w room f s d y p.0 (length ts) a ts c rest (omega arith) p.1 (begins-left kind w first rest e) (begins-right kind w first rest e);
       heads = λ ts c rest p. rounds_heads kind ys w room f y p.0 a ts c rest p.1;
       moves = λ ts c rest e.
-        let m = moved kind first ys w room f s d y (length ts) a ts c rest (omega arith) e in
-        record {
-          front = m.front;
-          split = m.split;
-          starts = m.starts;
-          again = λ other fits. m.again other (length (m.front ++ other)) fits (omega arith);
-        };
+          let m = moved kind first ys w room f s d y (length ts) a ts c rest (omega arith) e in
+          record {
+            front = m.front;
+            split = m.split;
+            starts = m.starts;
+            again = λ other fits. m.again other (length (m.front ++ other)) fits (omega arith);
+          };
       stuck = λ ts deep left e.
-        let k = fails kind first ys w room f s d y (length ts) a ts deep left (omega arith) e in
-        record {
-          front = k.front;
-          split = k.split;
-          same = λ other alike. k.same other (length (k.front ++ other)) alike (omega arith);
-          onward = k.onward;
-          value = k.value;
-          whole = k.whole (length (k.front ++ k.onward)) (omega arith);
-        };
+          let k = fails kind first ys w room f s d y (length ts) a ts deep left (omega arith) e in
+          record {
+            front = k.front;
+            split = k.split;
+            same = λ other alike. k.same other (length (k.front ++ other)) alike (omega arith);
+            onward = k.onward;
+            value = k.value;
+            whole = k.whole (length (k.front ++ k.onward)) (omega arith);
+          };
       lives = record { text = []; value = a; whole = refl };
     }
 

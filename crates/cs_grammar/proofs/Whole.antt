@@ -1,11 +1,10 @@
 -- What follows from an exact grammar: one answer for a whole list, and its reader finds it.
-use Rattle.std.proofs.Common.{◌≡◌, ◌⊎◌, inl, inr, ℕ, zero, suc, ◌+◌, ◌<◌, ◌≤◌, Bool, true, false, List, [], ◌∷◌, ◌++◌, length, refl, sym, ◌∙◌, ap, subst, Result, Ok, Err, arith}
+use Rattle.std.proofs.Common.{◌≡◌, inl, inr, ℕ, zero, suc, ◌<◌, Bool, true, false, List, [], ◌∷◌, ◌++◌, length, refl, sym, ◌∙◌, ap, subst, Result, Ok, Err, arith}
 use Rattle.std.proofs.lemmas.List.{append-nil, append_assoc, length-append}
-use Rattle.cs_grammar.specs.Kinds.{begins}
 use Rattle.cs_grammar.specs.Grammar.{Read, Grammar}
-use Rattle.cs_grammar.specs.Exact.{Moved, Stuck, Exact}
+use Rattle.cs_grammar.specs.Exact.{Exact}
 use Rattle.cs_grammar.specs.Whole.{Viable, Blocked, Passes, Depth, IsFault, Answers, at_end, whole, left_of, Deeper}
-use Rattle.cs_grammar.proofs.Basics.{ok, err, ok_value, ok_rest, not_both}
+use Rattle.cs_grammar.proofs.Basics.{ok, ok_value, ok_rest, not_both}
 
 -- two ways to cut one list
 
@@ -59,8 +58,8 @@ at_fault {kind = kind} {g = g} ts front deep [] x e split =
     let k = x.stuck ts deep [] e in
     let at : k.front ≡ front = (cut_same k.front front [] [] (sym k.split ∙ split) refl).0 in
     λ a d.
-      not_both (a, []) (deep, [])
-      (sym (x.again front a [] d refl) ∙ (ap (λ us. g.reads us) (sym (append-nil front)) ∙ subst (λ us. g.reads (us ++ []) ≡ Err (deep, [])) at (k.same [] tt)))
+    not_both (a, []) (deep, [])
+    (sym (x.again front a [] d refl) ∙ (ap (λ us. g.reads us) (sym (append-nil front)) ∙ subst (λ us. g.reads (us ++ []) ≡ Err (deep, [])) at (k.same [] tt)))
 at_fault {kind = kind} {g = g} ts front deep (next ∷ rest) x e split =
     let k = x.stuck ts deep (next ∷ rest) e in
     let at : k.front ≡ front = (cut_same k.front front (next ∷ rest) (next ∷ rest) (sym k.split ∙ split) refl).0 in

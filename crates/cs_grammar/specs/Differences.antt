@@ -4,13 +4,14 @@
 --     operand    = name | number | "(" difference ")" | "(" name ")" operand
 --
 -- A name in parentheses is a cast exactly where an operand begins behind them. Parentheses and casts make up the depth.
-use Rattle.std.specs.Prelude.{ℕ, zero, suc, true, List, [], ◌∷◌, Option, Some, None, is_some, unwrap_or}
+use Rattle.std.specs.Prelude.{◌≡◌, ℕ, zero, suc, Bool, true, Result, List, [], ◌∷◌, Option, Some, None, is_some, unwrap_or}
 use Rattle.cs_grammar.specs.declared.example.Token.{Token}
 use Rattle.cs_grammar.specs.declared.example.Token.TheVariants as token
 use Rattle.cs_grammar.specs.declared.example.Form.{Form}
 use Rattle.cs_grammar.specs.declared.example.Form.TheVariants.{Name, Number, Difference, Cast}
 use Rattle.cs_grammar.specs.declared.example.Form.TheOpen.{Form-F}
 use Rattle.cs_grammar.specs.declared.example.Form.TheFolds.{fold-Form}
+use Rattle.cs_grammar.specs.Whole.{Answers}
 use Rattle.cs_grammar.specs.Grammar.{Grammar, gives, one, ◌>>=◌, either, limited, choice, turns}
 
 -- the kinds of the tokens
@@ -75,13 +76,15 @@ difference_of operand = do first ← operand; turns kind_of (minus ∷ []) (λ _
 abbrev pub casting : Grammar Token Form → ℕ → Grammar Token Form
 casting operand n = do a ← operand; gives (Cast n a)
 
+-- ")", and what is cast where the form in the parentheses is a name and an operand begins
+abbrev pub closed : Grammar Token Form → Form → Grammar Token Form
+closed operand inner = do
+  _ ← sign unbracket
+  choice kind_of (is_some (name_of inner)) operand_kinds (casting operand (unwrap_or (name_of inner) 0)) (gives inner)
+
 -- "(" difference ")", or a cast
 abbrev pub parenthesized : Grammar Token Form → Grammar Token Form
-parenthesized operand = do
-    _ ← sign bracket
-    inner ← difference_of operand
-    _ ← sign unbracket
-    choice kind_of (is_some (name_of inner)) operand_kinds (casting operand (unwrap_or (name_of inner) 0)) (gives inner)
+parenthesized operand = do _ ← sign bracket; inner ← difference_of operand; closed operand inner
 
 -- an operand of at most this depth
 abbrev pub operand_at : ℕ → Grammar Token Form
@@ -91,3 +94,9 @@ operand_at (suc depth) = either kind_of (bracket ∷ []) (parenthesized (operand
 -- a difference of at most this depth
 abbrev pub difference_at : ℕ → Grammar Token Form
 difference_at depth = difference_of (operand_at depth)
+
+-- a list of tokens is one difference, or has one fault
+abbrev pub HasOneAnswer : Type 0
+HasOneAnswer =
+    (depth : ℕ) (ts : List Token) (r s : Result Form (Bool × List Token))
+    → Answers (difference_at depth) (difference_at (suc depth)) ts r → Answers (difference_at depth) (difference_at (suc depth)) ts s → r ≡ s

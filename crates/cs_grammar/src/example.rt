@@ -1,10 +1,10 @@
 // Differences of names and numbers, with parentheses and casts: how a grammar is stated, proved and read.
 
-ghost use Rattle.std.specs.Prelude.{◌≡◌};
-ghost use Rattle.cs_grammar.specs.Reads.{Finds, Reads};
-ghost use Rattle.cs_grammar.specs.Differences.{kind_of as kind_of_token, name_of as name_of_form, leaf as leaf_grammar, minus_one as minus_one_of, difference_of, casting, parenthesized as parenthesized_of, operand_at, difference_at};
+ghost use Rattle.std.specs.Prelude.{◌≡◌, ◌+◌};
+ghost use Rattle.cs_grammar.specs.Reads.{Finds, Reads, IsReading};
+ghost use Rattle.cs_grammar.specs.Differences.{kind_of as kind_of_token, name_of as name_of_form, leaf as leaf_grammar, minus_one as minus_one_of, difference_of, casting, parenthesized as parenthesized_of, operand_at, difference_at, HasOneAnswer};
 
-use crate::{Cursor, Fault, Kinded, begins, expect};
+use crate::{Cursor, Fault, Kinded, Stop, begins, expect, finish};
 use dc_base::Or;
 use sqlite_items::Boxed;
 use std::alloc::Global;
@@ -34,10 +34,15 @@ impl Kinded for Token {
 }
 
 const NAME: u16 = 0;
+
 const NUMBER: u16 = 1;
+
 const MINUS: u16 = 2;
+
 const OPEN: u16 = 3;
+
 const CLOSE: u16 = 4;
+
 const OPERAND: [u16; 3] = [NAME, NUMBER, OPEN];
 
 /// What the example's tokens make up. A difference associates to the left.
@@ -106,7 +111,12 @@ fn cast(alloc: Global, tokens: &mut Cursor<Token>, depth: u32, name: u32) -> Res
 }
 
 #[cycle(reading)]
-fn minus_one(alloc: Global, tokens: &mut Cursor<Token>, depth: u32, left: Form) -> Result<Form, Or<Fault>>
+fn minus_one(
+    alloc: Global,
+    tokens: &mut Cursor<Token>,
+    depth: u32,
+    left: Form,
+) -> Result<Form, Or<Fault>>
     ensures { Reads ((minus_one_of (operand_at depth) left).reads tokens.old) result tokens.new }
 {
     expect(tokens, MINUS)?;
@@ -127,3 +137,17 @@ fn difference(alloc: Global, tokens: &mut Cursor<Token>, depth: u32) -> Result<F
     }
     Ok(left)
 }
+
+/// Reads a difference of at most this depth.
+pub fn read(alloc: Global, tokens: &[Token], depth: u32) -> Result<Form, Or<Stop>>
+    ensures { IsReading (difference_at depth) (difference_at (depth + 1)) tokens.now result }
+{
+    let mut cursor = Cursor::new(tokens);
+    let read = difference(alloc, &mut cursor, depth);
+    finish(&cursor, read)
+}
+
+/// A list of tokens is one form and no other, or has one fault, and never both.
+pub fn one_reading()
+    ensures { HasOneAnswer }
+{}

@@ -3,9 +3,10 @@
 ghost use Rattle.std.specs.Prelude.{◌≡◌, true, false, [], ◌∷◌, MatchResult, Ok, Err};
 ghost use Rattle.cs_grammar.specs.Kinds.{begins as begins_of, has as has_of};
 ghost use Rattle.cs_grammar.specs.Grammar.{one};
-ghost use Rattle.cs_grammar.specs.Reads.{Finds};
+ghost use Rattle.cs_grammar.specs.Reads.{Finds, ended};
 
-use crate::{Cursor, Fault, Kinded};
+use crate::{Cursor, Fault, Kinded, Stop};
+use dc_base::Or;
 
 fn has(kinds: &[u16], kind: u16) -> bool
     ensures { result ≡ has_of kinds.now kind }
@@ -33,10 +34,8 @@ pub fn expect<T: Kinded>(tokens: &mut Cursor<T>, kind: u16) -> Result<(), Fault>
 
 /// Takes one token, of one of these kinds.
 pub fn take_one<'a, T: Kinded>(tokens: &mut Cursor<'a, T>, kinds: &[u16]) -> Result<&'a T, Fault>
-    ensures {
-        let read = (one T.kind_of kinds.now (λ t. t)).reads tokens.old in
-        MatchResult result (λ taken. read ≡ Ok (taken.now, tokens.new)) (λ fault. (fault ≡ Fault.Unexpected) × (read ≡ Err (false, tokens.new)))
-    }
+    ensures { let read = (one T.kind_of kinds.now (λ t. t)).reads tokens.old in
+        MatchResult result (λ taken. read ≡ Ok (taken.now, tokens.new)) (λ fault. (fault ≡ Fault.Unexpected) × (read ≡ Err (false, tokens.new))) }
 {
     if !begins(tokens, kinds) {
         return Err(Fault::Unexpected);
@@ -55,4 +54,20 @@ pub fn limit<T: Kinded>(tokens: &Cursor<T>, kinds: &[u16]) -> Result<(), Fault>
         return Err(Fault::TooDeep);
     }
     Ok(())
+}
+
+/// What was read of a whole list: nothing may stand behind it.
+pub fn finish<T, A: Drop>(tokens: &Cursor<T>, read: Result<A, Or<Fault>>) -> Result<A, Or<Stop>>
+    ensures { result ≡ ended tokens.now read }
+{
+    let left = tokens.left();
+    match read {
+        Ok(value) if left == 0 => Ok(value),
+        Ok(_) => Err(Or::Fault(Stop {
+            fault: Fault::Unexpected,
+            left,
+        })),
+        Err(Or::Fault(fault)) => Err(Or::Fault(Stop { fault, left })),
+        Err(Or::NoMemory) => Err(Or::NoMemory),
+    }
 }

@@ -1,4 +1,4 @@
-use Rattle.std.proofs.Common.{◌≡◌, ℕ, zero, suc, ◌+◌, ◌-◌, ◌<◌, Bool, true, List, [], ◌∷◌, refl, sym, ◌∙◌, subst, arith}
+use Rattle.std.proofs.Common.{◌≡◌, ℕ, zero, suc, ◌-◌, ◌<◌, true, List, [], ◌∷◌, refl, sym, ◌∙◌, subst, arith}
 use Rattle.cs_grammar.specs.declared.example.Token.{Token}
 use Rattle.cs_grammar.specs.declared.example.Form.{Form}
 use Rattle.cs_grammar.specs.Kinds.{begins}

@@ -1,6 +1,6 @@
 -- A difference of this depth calls its operands, and an operand what stands in parentheses at a lower depth. So far the
 -- difference is what is read in the rounds that are left.
-use Rattle.std.proofs.Common.{◌≡◌, ℕ, ◌+◌, ◌-◌, ◌*◌, true, [], ◌∷◌}
+use Rattle.std.proofs.Common.{◌≡◌, ◌+◌, ◌-◌, ◌*◌, true, [], ◌∷◌}
 use Rattle.cs_grammar.specs.Grammar.{read_rounds}
 use Rattle.cs_grammar.specs.Differences.{kind_of, minus, minus_one, operand_at, difference_at}
 use Rattle.cs_grammar.proofs.example.+reading.Given as goal
