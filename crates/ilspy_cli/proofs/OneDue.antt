@@ -10,8 +10,8 @@ use Rattle.ilspy_cli.proofs.OneName.{one_name}
 use Rattle.ilspy_cli.proofs.SameDue.{SameDue}
 use Rattle.ilspy_cli.proofs.OneShow.{one_of_show}
 use Rattle.ilspy_cli.specs.Lines.{too_big_line, fault_line}
-use Rattle.ilspy_cli.specs.Flat.{flat_of}
-use Rattle.ilspy_cli.specs.Layout.{text_of}
+use Rattle.ilspy_body.specs.Flat.{flat_of}
+use Rattle.ilspy_body.specs.Layout.{text_of}
 use Rattle.ilspy_cli.specs.Outcome.{limit_of, Names, IsBodyDue, IsFileDue, IsOfFile, IsTooBig, IsUsage, IsDue}
 
 -- a file has one due text

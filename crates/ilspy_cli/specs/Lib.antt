@@ -1,9 +1,3 @@
-pub mod Tokens
-pub mod Tree
-pub mod Flat
-pub mod Layout
-pub mod Elaborate
-pub mod Theorem
 pub mod Words
 pub mod Lines
 pub mod Status

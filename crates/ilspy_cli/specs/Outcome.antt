@@ -12,9 +12,9 @@ use Rattle.ilspy_cli.specs.declared.answer.TheConstants.{BODY_LIMIT, ASSEMBLY_LI
 use Rattle.ilspy_cli.specs.Words.{AreWordsInForm}
 use Rattle.ilspy_cli.specs.Show.{IsShowDue}
 use Rattle.ilspy_cli.specs.Lines.{usage_line, cannot_read_line, too_big_line, fault_line}
-use Rattle.ilspy_cli.specs.Flat.{flat_of}
-use Rattle.ilspy_cli.specs.Layout.{text_of}
-use Rattle.ilspy_cli.specs.Theorem.{LoneBodyMeansTheSame}
+use Rattle.ilspy_body.specs.Flat.{flat_of}
+use Rattle.ilspy_body.specs.Layout.{text_of}
+use Rattle.ilspy_body.specs.Theorem.{LoneBodyMeansTheSame}
 
 -- the most bytes that the file of a command may have
 abbrev pub limit_of : Command → ℕ

@@ -3,12 +3,12 @@
 ghost use Rattle.std.specs.Prelude.{◌≡◌, ◌≤◌, length, IfOk};
 ghost use Rattle.ilspy_cli.specs.Outcome.{IsDue, IsFileDue, IsBodyDue, limit_of};
 
-use crate::flat_form::flat;
 use crate::shown::show;
 use crate::words::{Command, asked};
-use crate::{Status, layout, lines};
+use crate::{Status, lines};
 use cil_body::lone;
 use dc_base::{NoMemory, Or, Shelf, TakeFault, Text};
+use ilspy_body::{code_can_be_flattened, flat, text};
 use std::alloc::Global;
 
 /// The most bytes that the file of a lone body may have.
@@ -79,10 +79,11 @@ fn answer_body(alloc: Global, file: &[u8]) -> Result<Answer, NoMemory>
 {
     match lone(alloc, file) {
         Ok(code) => {
+            code_can_be_flattened();
             let body = flat(alloc, code.as_slice())?;
             Ok(Answer {
                 status: Status::Done,
-                text: layout::text(alloc, &body)?,
+                text: text(alloc, &body)?,
             })
         }
         Err(Or::NoMemory) => Err(NoMemory),

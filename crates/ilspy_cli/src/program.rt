@@ -8,6 +8,7 @@ use crate::Status;
 use crate::answer::answer_words;
 use crate::put::put_all;
 use dc_base::{Gate, Shelf, Sink, Text};
+use ilspy_body::text_means_the_same;
 use std::alloc::Global;
 use std::thread::Threads;
 
@@ -49,6 +50,7 @@ pub fn run<R: Threads + Sync, S: Shelf, K: Sink, G: Gate + Sync>(
     let Ok(answer) = answer_words(alloc, words, shelf) else {
         return Status::NoMemory;
     };
+    text_means_the_same();
     match put_all(out, answer.text.as_str().as_bytes()) {
         Ok(()) => answer.status,
         Err(_) => Status::WriteFault,

@@ -6,7 +6,8 @@ use cil_body::lone;
 use cil_meaning::{LoneState, LoneStepped, lone_step};
 use cs_meaning::lone_exec;
 use dc_base::{MemShelf, MemSink, NoMemory, OpenGate, Stack, Text};
-use ilspy_cli::{Status, flat, run};
+use ilspy_body::{code_can_be_flattened, flat};
+use ilspy_cli::{Status, run};
 use std::alloc::Global;
 use std::process::Abort;
 use std::test::Fail;
@@ -169,6 +170,7 @@ fn returned_by_flat(alloc: Global, file: &[u8], args: [i32; 4]) -> Result<Option
 {
     match lone(alloc, file) {
         Ok(code) => {
+            code_can_be_flattened();
             let body = flat(alloc, code.as_slice())?;
             Ok(Some(lone_exec(alloc, &body, args)?))
         }

@@ -1,13 +1,10 @@
--- A lone body's code is shorter than its file, and its operands are ints.
+-- A lone body's code is what the flat form asks for.
 use Rattle.std.proofs.Common.{arith}
-use Rattle.cil_body.proofs.Above.{IsLone-operand}
-use Rattle.cil_body.proofs.Reading.{IsLone-consecutive}
-use Rattle.ilspy_cli.proofs.CilRuns.{consecutive_length}
 use Rattle.ilspy_tests.proofs.body.returned_by_flat.Goals as goal
 
 pub flat-requires-clause-short : goal.flat-requires-clause-short
 flat-requires-clause-short c =
-    rw c.as_slice.ensures.value (omega (arith, consecutive_length _ _ _ (IsLone-consecutive _ _ c.in-Ok.ensures.read), c.requires))
+    rw c.as_slice.ensures.value (c.code_can_be_flattened.ensures.short _ _ (omega (arith, c.requires)) c.in-Ok.ensures.read)
 
 pub flat-requires-clause-operands : goal.flat-requires-clause-operands
-flat-requires-clause-operands c = rw c.as_slice.ensures.value (IsLone-operand _ _ c.in-Ok.ensures.read)
+flat-requires-clause-operands c = rw c.as_slice.ensures.value (c.code_can_be_flattened.ensures.operands _ _ c.in-Ok.ensures.read)

@@ -1,0 +1,17 @@
+pub mod FlatShape
+pub mod FlatBody
+pub mod CilRuns
+pub mod Simulation
+pub mod Returns
+pub mod LayoutLines
+pub mod Chains
+pub mod Names
+pub mod FormReads
+pub mod TextReads
+pub mod Runs
+pub mod FormUnique
+pub mod TreeUnique
+pub mod TokensUnique
+pub mod FlatCode
+pub mod FlatLength
+pub mod LoneMeaning

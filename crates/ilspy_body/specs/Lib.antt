@@ -1,0 +1,6 @@
+pub mod Tokens
+pub mod Tree
+pub mod Flat
+pub mod Layout
+pub mod Elaborate
+pub mod Theorem

@@ -1,0 +1,51 @@
+-- The theorem of a lone body: the text that is written for it means what its bytes mean.
+use Rattle.std.specs.Prelude.{◌≡◌, ◌↔◌, ℕ, ℤ, List, length, All, Some}
+use Rattle.std.specs.Int.{w32}
+use Rattle.std.specs.Int.RustNames.{FitsSigned}
+use Rattle.cil_body.specs.Cut.{Placed}
+use Rattle.cil_body.specs.Lone.{IsLone}
+use Rattle.cil_meaning.specs.Meaning.{CilReturns}
+use Rattle.cs_meaning.specs.declared.body.Body.{Body}
+use Rattle.cs_meaning.specs.Meaning.{CsReturns}
+use Rattle.cs_meaning.specs.Typed.{IsLoneTyped}
+use Rattle.cs_meaning.specs.Assigned.{IsDefinitelyAssigned}
+use Rattle.ilspy_body.specs.Tokens.{Token, AreTokens}
+use Rattle.ilspy_body.specs.Tree.{Method, IsTree}
+use Rattle.ilspy_body.specs.Elaborate.{body_of}
+
+-- four ints
+abbrev pub AreArguments : List ℤ → Type 0
+AreArguments args = (length args ≡ 4) × All (FitsSigned w32) args
+
+-- the body returns, for all four arguments, what the code returns
+pub record ReturnsTheSame (code : List Placed) (body : Body) : Type 0 where
+  pub both : (args : List ℤ) → AreArguments args → (v : ℤ) × CilReturns code args v × CsReturns body args v
+  pub same : (args : List ℤ) (v : ℤ) → AreArguments args → CilReturns code args v ↔ CsReturns body args v
+
+-- the body is typed and definitely assigned, and returns what the code returns
+pub record RunsAsTheCode (code : List Placed) (body : Body) : Type 0 where
+  pub typed : IsLoneTyped body
+  pub assigned : IsDefinitelyAssigned body
+  pub returns : ReturnsTheSame code body
+
+-- the text is one list of tokens, and no other
+pub record HasOneTokenList (text : List ℕ) (tokens : List Token) : Type 0 where
+  pub are : AreTokens text tokens
+  pub only : (others : List Token) → AreTokens text others → others ≡ tokens
+
+-- the tokens are one tree, and no other
+pub record HasOneTree (tokens : List Token) (tree : Method) : Type 0 where
+  pub is : IsTree tokens tree
+  pub only : (other : Method) → IsTree tokens other → other ≡ tree
+
+-- the text reads as one tree, whose one body is typed, definitely assigned, and returns what the file's code returns
+pub record LoneBodyMeansTheSame (file text : List ℕ) : Type 0 where
+  pub code : List Placed
+  pub lone : IsLone file code
+  pub tokens : List Token
+  pub lexed : HasOneTokenList text tokens
+  pub tree : Method
+  pub parsed : HasOneTree tokens tree
+  pub body : Body
+  pub elaborated : body_of tree ≡ Some body
+  pub runs : RunsAsTheCode code body

@@ -1,0 +1,20 @@
+//! A lone body as C# text.
+//!
+//! ```text
+//! file ─ cil_body: code ─ flat: a C# body ─ text
+//! ```
+//!
+//! [`flat`] makes the flat form of a lone body's code, in which each push declares a variable of its own, and [`text`] writes
+//! it as one method. What the text means is said from the other end, by the definitions of its tokens (ECMA-334 6.4), its
+//! tree (12.4, 13.6, 15.6) and the body that the tree has: [`text_means_the_same`] is the theorem.
+#![tactic(auto)]
+
+mod flat_form;
+mod layout;
+mod meaning;
+mod reading;
+
+pub use flat_form::flat;
+pub use layout::text;
+pub use meaning::{code_can_be_flattened, text_means_the_same};
+pub use reading::one_tree;

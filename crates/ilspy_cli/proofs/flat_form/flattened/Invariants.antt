@@ -1,5 +1,0 @@
-use Rattle.ilspy_cli.proofs.FlatCode.{SoFar}
-use Rattle.ilspy_cli.proofs.flat_form.flattened.Given as goal
-
-abbrev pub invariant-loop-simple : goal.invariant-loop-simple
-invariant-loop-simple l = SoFar l.code l.simple-index l.stmts l.slots l.next

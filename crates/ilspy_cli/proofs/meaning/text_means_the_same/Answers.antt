@@ -1,6 +1,0 @@
--- The text reads as one tree, whose body is that of the flat form; and the flat form returns what the code returns.
-use Rattle.ilspy_cli.proofs.LoneMeaning.{text_means_the_same_lem}
-use Rattle.ilspy_cli.proofs.meaning.text_means_the_same.Goals as goal
-
-pub returns : goal.returns
-returns c = text_means_the_same_lem
