@@ -1,6 +1,6 @@
 -- Where files are told and no fault of the shelf is counted, one status and one text are due.
 use Rattle.std.proofs.Common.{◌≡◌, inl, inr, ℕ, List, length, Option, Some, option_map, refl, sym, ap, ◌∙◌, subst, arith}
-use Rattle.cil_body.proofs.Reading.{one_code, no_fault, one_fault}
+use Rattle.cil_lone.proofs.Consequences.{has_one_code as one_code, has_no_fault as no_fault, has_one_fault as one_fault}
 use Rattle.dc_base.specs.Outside.{HasRisen}
 use Rattle.ilspy_cli.specs.declared.status.Status.{Status}
 use Rattle.ilspy_cli.specs.declared.status.Status.TheVariants.{Done, Refused, Usage, ReadFault, WriteFault, NoMemory, No}

@@ -6,8 +6,8 @@ use Rattle.ilspy_cli.specs.Outcome.{Files, IsDue, IsFileDue, IsWritten, MeansThe
 use Rattle.ilspy_cli.specs.declared.words.Command.TheVariants.{Body}
 use Rattle.dc_base.specs.Outside.{IsFile}
 use Rattle.ilspy_cli.proofs.OneName.{one_name}
-use Rattle.cil_body.specs.Cut.{Placed}
-use Rattle.cil_body.specs.Lone.{IsLone}
+use Rattle.cil_lone.specs.Cut.{Placed}
+use Rattle.cil_lone.specs.Lone.{IsLone}
 use Rattle.ilspy_body.specs.Flat.{flat_of}
 use Rattle.ilspy_body.specs.Layout.{text_of}
 use Rattle.ilspy_body.specs.Theorem.{LoneBodyMeansTheSame}

@@ -6,7 +6,7 @@ ghost use Rattle.ilspy_cli.specs.Outcome.{IsDue, IsFileDue, IsBodyDue, limit_of}
 use crate::shown::show;
 use crate::words::{Command, asked};
 use crate::{Status, lines};
-use cil_body::lone;
+use cil_lone::lone;
 use dc_base::{NoMemory, Or, Shelf, TakeFault, Text};
 use ilspy_body::{code_can_be_flattened, flat, text};
 use std::alloc::Global;
