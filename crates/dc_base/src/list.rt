@@ -1,6 +1,6 @@
 // The list in a public field.
 
-ghost use Rattle.std.specs.Prelude.{◌≡◌, [], ◌∷◌, ◌++◌, ◌<◌, ◌↔◌, length, slice_get, slice_set, IsTrue, OnErr, OnOk};
+ghost use Rattle.std.specs.Prelude.{◌≡◌, [], ◌∷◌, ◌++◌, ◌<◌, ◌↔◌, length, slice_get, slice_set, IsTrue, IfOk, OnErr, OnOk};
 ghost use Rattle.std.specs.Cmp.Rules.{comparing};
 ghost use Rattle.std.specs.Option.{option_copied};
 ghost use Rattle.std.proofs.Common.{rules};
@@ -74,6 +74,16 @@ impl<T> Seq<T> {
     }
 }
 
+impl<T: Copy> Seq<T> {
+    pub fn copied(&self, alloc: Global) -> Result<Seq<T>, NoMemory>
+        ensures { IfOk result (λ seq. seq ≡ self.now) }
+    {
+        Ok(Seq {
+            items: Vec::from_slice(alloc, self.items())?,
+        })
+    }
+}
+
 impl<T: Drop> Seq<T> {
     /// On want of memory the item is dropped.
     pub fn push(&mut self, item: T) -> Result<(), NoMemory>
@@ -128,13 +138,14 @@ mod tests {
         params.set(1, 6);
         assert_eq!(rt; params.len(), 2);
         assert_eq!(rt; params.get(1), Some(&6));
+        let copy = params.copied(alloc)?;
         let mut one = Signature {
             name: Text::of(alloc, "sum")?,
             params,
         };
         let other = Signature {
             name: Text::of(alloc, "sum")?,
-            params: Seq::of(Vec::from_slice(alloc, &[4, 6])?),
+            params: copy,
         };
         assert!(rt; one == other);
         one.params.set(0, 7);
