@@ -10,9 +10,10 @@ use Rattle.pe_image.specs.declared.sections.Span.{Span}
 use Rattle.pe_image.specs.Headers.{table_place}
 use Rattle.pe_image.specs.declared.fault.ImageCause.TheVariants.{NotIlOnly}
 use Rattle.pe_image.specs.Cli.{IsIlOnly, flags_place}
+use Rattle.pe_image.specs.Apart.{AreWithin}
 use Rattle.pe_image.specs.Image.{wrong, ReadsHeaders, ReadsSections, ReadsCli, ReadsImage, IsImage}
 use Rattle.pe_image.specs.Laws.{HasOneReading, HasNoFault, HasOneFault, RangesAreWithin, RestsAreWithin, MetadataIsWithin}
-use Rattle.pe_image.proofs.Ranges.{AreWithin, range_at-within, range_from-within}
+use Rattle.pe_image.proofs.Ranges.{range_at-within, range_from-within}
 use Rattle.pe_image.proofs.Unique.{one_number, one_pe, one_section, one_cli}
 
 single-image : (file : List ℕ) → IsSingle (ReadsImage file)

@@ -1,19 +1,16 @@
 -- The ranges of an image are in its file.
-use Rattle.std.proofs.Common.{◌≡◌, ℕ, ◌+◌, ◌≤◌, Bool, true, List, [], ◌∷◌, length, All, Some, refl, subst, inl, inr, arith}
+use Rattle.std.proofs.Common.{◌≡◌, ℕ, ◌+◌, ◌≤◌, Bool, true, List, [], ◌∷◌, length, Some, refl, subst, inl, inr, arith}
 use Rattle.std.specs.Prelude.{find}
 use Rattle.pe_image.specs.declared.sections.Section.{Section}
 use Rattle.pe_image.specs.declared.sections.Span.{Span}
 use Rattle.pe_image.specs.Sections.{holds, range_at, range_from}
+use Rattle.pe_image.specs.Apart.{AreWithin}
 use Rattle.dc_causes.proofs.Order.{all_head, all_tail}
 use Rattle.pe_image.proofs.Options.{chosen, mapped}
 
 -- the raw bytes of a section are in the file
 abbrev pub IsWithin : List ℕ → Section → Type 0
 IsWithin file s = s.start + s.size ≤ length file
-
--- and those of these sections are
-abbrev pub AreWithin : List ℕ → List Section → Type 0
-AreWithin file ss = All (IsWithin file) ss
 
 -- a section that is found passes the test, and its raw bytes are in the file
 pub found_is : (p : Section → Bool) (file : List ℕ) (ss : List Section) (s : Section) → AreWithin file ss → find p ss ≡ Some s → (p s ≡ true) × (s.start + s.size ≤ length file)

@@ -1,11 +1,11 @@
 -- Going over the section headers, one after the other.
-use Rattle.std.proofs.Common.{◌≡◌, ℕ, zero, suc, ◌+◌, ◌*◌, ◌-◌, ◌<◌, ◌≤◌, Bool, true, false, cond, List, length, get_or, drop, Option, Some, None, refl, sym, ap, ◌∙◌, subst, arith}
+use Rattle.std.proofs.Common.{◌≡◌, ℕ, zero, suc, ◌+◌, ◌*◌, ◌-◌, ◌<◌, ◌≤◌, Bool, true, false, cond, List, [], ◌∷◌, ◌++◌, length, get_or, drop, Option, Some, None, refl, sym, ap, ◌∙◌, subst, arith}
 use Rattle.std.specs.Prelude.{find}
 use Rattle.pe_image.specs.declared.sections.Section.{Section}
 use Rattle.pe_image.specs.declared.sections.Table.{Table}
 use Rattle.pe_image.specs.Sections.{section_of}
 use Rattle.pe_image.specs.Table.{sections_from, sections_of, IsTable}
-use Rattle.pe_image.proofs.Ranges.{AreWithin}
+use Rattle.pe_image.specs.Apart.{AreWithin}
 
 pub length-sections_from : (file : List ℕ) (place n : ℕ) → length (sections_from file place n) ≡ n
 length-sections_from file place zero = refl
@@ -49,3 +49,13 @@ pub none_passes : (p : Section → Bool) (file : List ℕ) (place count i : ℕ)
 none_passes p file place count i first le r =
     let e : count - i ≡ 0 = omega arith in
     subst (λ (n : ℕ). find p (sections_from file (place + 40 * i) n) ≡ first) e r
+
+-- one more section behind the others
+pub sections_more : (file : List ℕ) (place i : ℕ) → sections_from file place (i + 1) ≡ sections_from file place i ++ (section_of (drop (place + 40 * i) file) ∷ [])
+sections_more file place zero =
+    let e : place ≡ place + 40 * 0 = omega arith in ap (λ (p : ℕ). section_of (drop p file) ∷ []) e
+sections_more file place (suc i) =
+    let on : suc i + 1 ≡ suc (i + 1) = omega arith in
+    let e : place + 40 + 40 * i ≡ place + 40 * suc i = omega arith in
+    ap (sections_from file place) on ∙ ap (λ (ss : List Section). section_of (drop place file) ∷ ss) (sections_more file (place + 40) i)
+    ∙ ap (λ (p : ℕ). sections_from file place (suc i) ++ (section_of (drop p file) ∷ [])) e

@@ -51,3 +51,8 @@ pub record Parts : Type 0 where
   pub file : List ℕ
   pub sections : List Section
   pub metadata : Span
+
+-- and of its index
+pub record IndexParts : Type 0 where
+  pub file : List ℕ
+  pub sections : List Section

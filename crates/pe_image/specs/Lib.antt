@@ -2,8 +2,10 @@ pub mod Number
 pub mod Headers
 pub mod Sections
 pub mod Table
+pub mod Apart
 pub mod Cli
 pub mod Image
 pub mod View
+pub mod IndexView
 pub mod Fault
 pub mod Laws

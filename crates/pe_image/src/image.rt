@@ -9,7 +9,10 @@ ghost use Rattle.pe_image.specs.Fault.{IsImageFault};
 use crate::cli::{cli_of, directory_of, is_il_only};
 use crate::fault::{ImageCause, ImageFault};
 use crate::headers::headers_of;
+use crate::index::ImageIndex;
 use crate::sections::{Span, Table, table_of};
+use dc_base::NoMemory;
+use std::alloc::Global;
 use std::marker::Model;
 
 /// The image of an assembly. A clause sees its file, its sections, and the range of its metadata.
@@ -62,7 +65,8 @@ impl<'a> Image<'a> {
     }
 
     /// The `len` bytes at the address `rva`, where a section's raw bytes hold them all. Of several sections the first
-    /// counts. They are lent from the file, and outlive the image. Each call goes over the section headers.
+    /// counts. They are lent from the file, and outlive the image. Each call goes over the section headers: whoever asks often
+    /// takes an [`Image::index`].
     pub fn at(&self, rva: u32, len: u32) -> Option<&'a [u8]>
         ensures bytes { option_copied result ≡ option_map (bytes_in self.now.file) (range_at self.now.sections rva len) }
         ensures len { IfSome result (λ bytes. length bytes.now ≡ len) }
@@ -80,6 +84,14 @@ impl<'a> Image<'a> {
     {
         let range = self.table.range_from(self.file, rva)?;
         Some(range.of(self.file))
+    }
+
+    /// The sections in memory, for many look-ups.
+    pub fn index(&self, alloc: Global) -> Result<ImageIndex<'a>, NoMemory>
+        ensures file { IfOk result (λ index. index.file ≡ self.now.file) }
+        ensures sections { IfOk result (λ index. index.sections ≡ self.now.sections) }
+    {
+        ImageIndex::new(alloc, self.file, self.table)
     }
 
     /// The metadata that the CLI header names, lent from the file.

@@ -7,14 +7,15 @@
 //! memory | .. a section at its address: `size` raw bytes of the file from `start` on ..
 //! ```
 //!
-//! No call takes memory. [`Image::of`] reads the headers alone, and [`Image::at`] and [`Image::rest`] look at no more
-//! than the section headers.
+//! [`Image::of`] reads the headers alone, and takes no memory. [`Image::at`] and [`Image::rest`] go over the section headers
+//! at each call; whoever looks up many addresses keeps an [`ImageIndex`], which answers the same.
 #![tactic(auto)]
 
 mod cli;
 mod fault;
 mod headers;
 mod image;
+mod index;
 mod laws;
 mod number;
 mod sections;
@@ -23,4 +24,5 @@ mod tests;
 
 pub use fault::{ImageCause, ImageFault};
 pub use image::Image;
+pub use index::ImageIndex;
 pub use laws::{one_reading, ranges_are_within};

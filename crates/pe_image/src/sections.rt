@@ -1,6 +1,6 @@
 // The sections of an image.
 
-ghost use Rattle.std.specs.Prelude.{◌≡◌, ◌+◌, ◌≤◌, ◌^◌, length, drop, find, IfSome, IfErr, IfOk, IsTrue};
+ghost use Rattle.std.specs.Prelude.{◌≡◌, ◌+◌, ◌-◌, ◌≤◌, ◌^◌, length, drop, find, IfSome, IfErr, IfOk, IsTrue};
 ghost use Rattle.std.specs.Bool.{OnTrue, OnFalse};
 ghost use Rattle.dc_causes.specs.Answer.{FaultOf};
 ghost use Rattle.pe_image.specs.Headers.{IsPe};
@@ -12,6 +12,8 @@ ghost use Rattle.pe_image.specs.declared.sections.Section.{Section};
 use crate::fault::{ImageCause, ImageFault};
 use crate::headers::Headers;
 use byteorder::{ByteOrder, LittleEndian};
+use dc_base::NoMemory;
+use std::alloc::Global;
 
 /// A section: the address that it is loaded at, and its raw bytes, of which there are `size` in the file from `start`
 /// on.
@@ -35,14 +37,15 @@ impl Section {
         }
     }
 
-    // The address behind the last raw byte, which may be 2^32 and more.
-    fn end(self) -> u64
+    /// The address behind the last raw byte, which may be 2^32 and more.
+    pub fn end(self) -> u64
         ensures { result ≡ self.address + self.size }
     {
         u64::from(self.address) + u64::from(self.size)
     }
 
-    fn holds(self, rva: u32, len: u32) -> bool
+    /// Whether the raw bytes hold `len` bytes from an address on.
+    pub fn holds(self, rva: u32, len: u32) -> bool
         ensures { result ≡ holds rva len self }
     {
         self.address <= rva && u64::from(rva) + u64::from(len) <= self.end()
@@ -54,6 +57,28 @@ impl Section {
         ensures { result ≡ place_of rva self }
     {
         self.start as usize + (rva - self.address) as usize
+    }
+
+    /// Where the file has the bytes at these addresses, which the section holds.
+    pub fn range_at(self, rva: u32, len: u32) -> Span
+        requires { self.address ≤ rva }
+        ensures { result ≡ record { start = place_of rva self; len = len } }
+    {
+        Span {
+            start: self.place(rva),
+            len: len as usize,
+        }
+    }
+
+    /// Where the file has the bytes from this address, which the section holds, to the section's raw end.
+    pub fn range_from(self, rva: u32) -> Span
+        requires { IsTrue (holds rva 1 self) }
+        ensures { result ≡ record { start = place_of rva self; len = self.address + self.size - rva } }
+    {
+        Span {
+            start: self.place(rva),
+            len: (self.end() - u64::from(rva)) as usize,
+        }
     }
 }
 
@@ -105,10 +130,7 @@ impl Table {
         ensures { result ≡ range_at (sections_of file.now self) rva len }
     {
         let section = self.first_holding(file, rva, len)?;
-        Some(Span {
-            start: section.place(rva),
-            len: len as usize,
-        })
+        Some(section.range_at(rva, len))
     }
 
     /// Where the file has the bytes from this address to the raw end of a section, if one holds the first of them.
@@ -117,10 +139,20 @@ impl Table {
         ensures { result ≡ range_from (sections_of file.now self) rva }
     {
         let section = self.first_holding(file, rva, 1)?;
-        Some(Span {
-            start: section.place(rva),
-            len: (section.end() - u64::from(rva)) as usize,
-        })
+        Some(section.range_from(rva))
+    }
+
+    /// The sections in memory.
+    pub fn sections(self, alloc: Global, file: &[u8]) -> Result<Vec<Section>, NoMemory>
+        requires { IsTable file.now self }
+        ensures { IfOk result (λ sections. sections.items ≡ sections_of file.now self) }
+    {
+        let mut sections = Vec::with_capacity(alloc, usize::from(self.count))?;
+        for i in 0..usize::from(self.count) {
+            let header = &file[self.place + 40 * i..];
+            sections.push(Section::of(header))?;
+        }
+        Ok(sections)
     }
 }
 
@@ -159,6 +191,6 @@ fn is_section(file: &[u8], place: usize) -> bool
     if header.len() < 40 {
         return false;
     }
-    let section = Section::of(header);
-    u64::from(section.start) + u64::from(section.size) <= file.len() as u64
+    let says = Section::of(header);
+    u64::from(says.start) + u64::from(says.size) <= file.len() as u64
 }

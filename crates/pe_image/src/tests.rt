@@ -108,6 +108,26 @@ fn of_two_sections_the_first_counts(rt: HostRuntime) -> Result<(), Fail> {
 }
 
 #[test]
+fn an_index_answers_as_the_image(rt: HostRuntime) -> Result<(), Fail> {
+    // The second section behind the first one, over its end, and before it.
+    for second in [0x4000, 0x2100, 0x1000] {
+        let mut made = made(&PE32);
+        put(&mut made, &[(0x16C, second)]);
+        let file: &[u8] = &made;
+        let image = Image::of(file).ok().ok_or("the file is an image")?;
+        let index = image.index(rt.alloc())?;
+        for rva in [
+            0xFFF, 0x1000, 0x10FF, 0x1100, 0x2000, 0x21FE, 0x21FF, 0x40FF,
+        ] {
+            assert_eq!(rt; index.at(rva, 0), image.at(rva, 0));
+            assert_eq!(rt; index.at(rva, 2), image.at(rva, 2));
+            assert_eq!(rt; index.rest(rva), image.rest(rva));
+        }
+    }
+    Ok(())
+}
+
+#[test]
 fn each_fault_stands_at_its_place(rt: HostRuntime) {
     let faults = [
         // The place of the signature, the signature, the magic.
