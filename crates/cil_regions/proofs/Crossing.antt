@@ -1,15 +1,15 @@
 -- Regions that cross one another.
-use Rattle.std.proofs.Common.{◌≡◌, ℕ, ◌+◌, ◌-◌, ◌<◌, Bool, true, false, ◌&&◌, ltb, List, length, get_or, take, drop, inl, inr, sym, refl, ap, ◌∙◌, subst, arith, get_or-take, length-take, length-drop}
-use Rattle.std.proofs.lemmas.Bool.{both_ways, ltb-true, ltb-false, lt-ltb, and_parts, and_from, cases_lt, cases_order, false_from_ne_true}
-use Rattle.std.proofs.lemmas.List.{get_or_default, get_or-drop, take_all}
+use Rattle.std.proofs.Common.{◌≡◌, ℕ, ◌+◌, ◌<◌, ◌≤◌, Bool, true, false, ltb, List, length, get_or, set, inl, inr, sym, refl, ap, ◌∙◌, subst, arith, get_or-set_same, get_or-set_other, length-set}
+use Rattle.std.proofs.lemmas.Bool.{ltb-true, ltb-false, cases_lt, cases_order}
+use Rattle.std.proofs.lemmas.List.{get_or_default}
 use Rattle.std.proofs.lemmas.List.Elements.{Contains-get_or}
-use Rattle.std.proofs.lemmas.List.Folds.{Any-from_list_any, list_any-from_Any}
-use Rattle.std.proofs.lemmas.List.Sums.{prefix_len_passes, prefix_len_stops, prefix_len-le-length}
 use Rattle.std.specs.Bool.{MatchBool}
-use Rattle.std.specs.List.{All, AllPairs, Any, list_any, prefix_len}
+use Rattle.std.specs.List.{AllPairs}
 use Rattle.cil_regions.specs.declared.region.Span.{Span}
 use Rattle.cil_regions.specs.Region.{AreLaminar, ComesBefore, CrossesAt, IsLeast}
 use Rattle.cil_regions.specs.Laid.{AreRising, Crosses}
+use Rattle.cil_regions.specs.Outlasting.{IsCrossed, IsOutlasting, AreOutlasting}
+use Rattle.cil_regions.proofs.Chain.{no_span}
 use Rattle.cil_regions.proofs.Inside.{inside_parts, lies_from, lies_parts}
 
 pub laminar_from : (r s : Span) → ComesBefore r s → (Crosses r s → ⊥) → AreLaminar r s
@@ -62,73 +62,22 @@ rising spans ordered i j d le lt =
           omega (arith, ap (λ k. (get_or spans k d).from) is)
     ]
 
-pub rising_behind : (spans : List Span) (n : ℕ) → AreRising spans → AreRising (drop n spans)
-rising_behind spans n rise i j d le lt =
-    let first : get_or (drop n spans) i d ≡ get_or spans (n + i) d = get_or-drop n spans i d in
-    let second : get_or (drop n spans) j d ≡ get_or spans (n + j) d = get_or-drop n spans j d in
-    let rises = rise (n + i) (n + j) d (omega arith) (omega (arith, length-drop n spans)) in
-    omega (arith, rises, ap (λ s. s.from) first, ap (λ s. s.from) second)
-
-module _ (span : Span) where
-  abbrev pub near : Span → Bool
-  near other = ltb other.from span.to
-
-  abbrev pub passes : Span → Bool
-  passes other = ltb span.from other.from && ltb span.to other.to
-
-  -- what crosses it passes both tests
-  tests : (other : Span) → Crosses span other → (near other ≡ true) × (passes other ≡ true)
-  tests other cross = (lt-ltb other.from span.to cross.1, and_from (ltb span.from other.from) (ltb span.to other.to) (lt-ltb span.from other.from cross.0) (lt-ltb span.to other.to cross.2))
-
-  crosses : (other : Span) → near other ≡ true → passes other ≡ true → Crosses span other
-  crosses other n p =
-      let both = and_parts (ltb span.from other.from) (ltb span.to other.to) p in
-      (ltb-true span.from other.from both.0, ltb-true other.from span.to n, ltb-true span.to other.to both.1)
-
-  none_passes : (xs : List Span) → list_any passes xs ≡ false → All (λ other. passes other ≡ false) xs
-  none_passes xs h k d lt =
-      false_from_ne_true (passes (get_or xs k d))
-      (λ t. both_ways (list_any passes xs) h
-      (list_any-from_Any passes xs (k, get_or xs k d, lt, get_or_default xs k (get_or xs k d) d lt, t)))
-
-  pub crossed_in : (later : List Span) (found : Bool) → AreRising later → found ≡ list_any passes (take (prefix_len near later) later) → MatchBool found (Any (Crosses span) later) (All (λ other. Crosses span other → ⊥) later)
-  crossed_in later true rise is =
-      let any = Any-from_list_any passes (take (prefix_len near later) later) (sym is) in
-      let k = any.0 in
-      let early : k < prefix_len near later = omega (arith, any.2, length-take (prefix_len near later) later) in
-      let here : get_or later k any.1 ≡ any.1 = sym (get_or-take (prefix_len near later) later k any.1 early) ∙ any.3 in
-      let close = prefix_len_passes near later k any.1 early in
-      (k, any.1, omega (arith, early, prefix_len-le-length near later), here, crosses any.1 (sym (ap near here) ∙ close) any.4)
-  crossed_in later false rise is = λ k d lt cross.
-      let none = none_passes (take (prefix_len near later) later) (sym is) in
-      let both = tests (get_or later k d) cross in
-      elim (cases_lt k (prefix_len near later)) [
-        | inl early ↦
-            let here = get_or-take (prefix_len near later) later k d early in
-            let off = none k d (omega (arith, early, lt, length-take (prefix_len near later) later)) in
-            both_ways (passes (get_or later k d)) (sym (ap passes here) ∙ off) both.1
-        | inr past ↦
-            let stops = prefix_len_stops near later d (omega (arith, past, lt)) in
-            let far = ltb-false (get_or later (prefix_len near later) d).from span.to stops in
-            let rises = rise (prefix_len near later) k d past lt in
-            omega (arith, far, rises, cross.1)
-      ]
-
 module _ (spans : List Span) (ordered : AllPairs ComesBefore spans) (i : ℕ) (d : Span) (within : i < length spans) (before : (a b : ℕ) (d : Span) → a < i → a < b → b < length spans → AreLaminar (get_or spans a d) (get_or spans b d)) where
-  pub laminar_more : All (λ other. Crosses (get_or spans i d) other → ⊥) (drop (i + 1) spans) → (a b : ℕ) (e : Span) → a < i + 1 → a < b → b < length spans → AreLaminar (get_or spans a e) (get_or spans b e)
+  pub laminar_more : (IsCrossed spans i → ⊥) → (a b : ℕ) (e : Span) → a < i + 1 → a < b → b < length spans → AreLaminar (get_or spans a e) (get_or spans b e)
   laminar_more none a b e lt less inside =
       elim (cases_lt a i) [
         | inl early ↦ before a b e early less inside
         | inr past ↦
-            let is : i ≡ a = omega arith in
-            let far : (i + 1) + (b - (i + 1)) ≡ b = omega arith in
-            let here : get_or (drop (i + 1) spans) (b - (i + 1)) e ≡ get_or spans b e =
-            get_or-drop (i + 1) spans (b - (i + 1)) e ∙ ap (λ n. get_or spans n e) far in
-            let first : get_or spans i d ≡ get_or spans a e = get_or_default spans i d e within ∙ ap (λ n. get_or spans n e) is in
+            let is : a ≡ i = omega arith in
             laminar_from (get_or spans a e) (get_or spans b e) (ordered a b e less inside)
-            (λ cross. none (b - (i + 1)) e (omega (arith, length-drop (i + 1) spans))
-            (subst (λ s. Crosses s (get_or (drop (i + 1) spans) (b - (i + 1)) e)) (sym first)
-            (subst (Crosses (get_or spans a e)) (sym here) cross)))
+            (λ cross. none (
+              b,
+              subst (λ (n : ℕ). n < b) is less,
+              inside,
+              λ f.
+                  subst (λ s. Crosses s (get_or spans b f)) (get_or_default spans a e f (omega arith) ∙ ap (λ n. get_or spans n f) is)
+                  (subst (λ s. Crosses (get_or spans a e) s) (get_or_default spans b e f inside) cross),
+            ))
       ]
 
   none_sooner : (p : ℕ) → p < (get_or spans i d).from → CrossesAt spans p → ⊥
@@ -154,23 +103,108 @@ module _ (spans : List Span) (ordered : AllPairs ComesBefore spans) (i : ℕ) (d
             omega (arith, rises, start, c.4)
       ]
 
-  pub least_crossing : Any (Crosses (get_or spans i d)) (drop (i + 1) spans) → IsLeast (CrossesAt spans) (get_or spans i d).from
-  least_crossing any =
-      let k = any.0 in
-      let other = any.1 in
-      let here : get_or spans (i + 1 + k) other ≡ other = sym (get_or-drop (i + 1) spans k other) ∙ any.3 in
-      let inside : i + 1 + k < length spans = omega (arith, any.2, length-drop (i + 1) spans) in (
-        (
-          get_or spans i d,
-          other,
-          Contains-get_or spans i d within,
-          (i + 1 + k, inside, here),
-          refl,
-          never_laminar (get_or spans i d) other any.4,
-        ),
-        none_sooner,
+  pub least_crossing : IsCrossed spans i → IsLeast (CrossesAt spans) (get_or spans i d).from
+  least_crossing crossed = (
+    (
+      get_or spans i d,
+      get_or spans crossed.0 d,
+      Contains-get_or spans i d within,
+      Contains-get_or spans crossed.0 d crossed.2,
+      refl,
+      never_laminar (get_or spans i d) (get_or spans crossed.0 d) (crossed.3 d),
+    ),
+    none_sooner,
+  )
+
+-- the next region that ends behind this one crosses it where it begins before this one's end
+module _ (spans : List Span) (ordered : AllPairs ComesBefore spans) (i next : ℕ) (is : IsOutlasting spans i next) where
+  pub crossed_by : (d : Span) → next < length spans → (get_or spans next d).from < (get_or spans i d).to → IsCrossed spans i
+  crossed_by d within early =
+      let after = is.after in
+      let ends = is.ends d within in
+      let begins : (get_or spans i d).from < (get_or spans next d).from =
+      elim (ordered i next d after within) [
+        | inl less ↦ less
+        | inr same ↦
+            let parts = inside_parts (get_or spans next d) (get_or spans i d) same.1 in
+            absurd (omega (arith, ends, parts.ends))
+      ] in (
+        next,
+        after,
+        within,
+        λ e.
+            subst (λ s. Crosses s (get_or spans next e)) (get_or_default spans i d e (omega arith))
+            (subst (λ s. Crosses (get_or spans i d) s) (get_or_default spans next d e within) (begins, early, ends)),
       )
 
--- the slice from n on
-pub behind : (spans : List Span) (n : ℕ) → take (length spans - n) (drop n spans) ≡ drop n spans
-behind spans n = take_all (length spans - n) (drop n spans) (omega (arith, length-drop n spans))
+  -- no later region does where it doesn't
+  pub not_crossed : ((d : Span) → next < length spans → (get_or spans i d).to ≤ (get_or spans next d).from) → IsCrossed spans i → ⊥
+  not_crossed late crossed =
+      let j = crossed.0 in
+      let within = crossed.2 in
+      let d : Span = get_or spans i no_span in
+      let cross = crossed.3 d in
+      elim (cases_lt j next) [
+        | inl early ↦
+            let below = is.between j d crossed.1 early in
+            omega (arith, below, cross.2)
+        | inr past ↦
+            let far = late d (omega arith) in
+            let rises = rising spans ordered next j d past within in
+            omega (arith, far, rises, cross.1)
+      ]
+
+-- what is passed over with a region ends no later
+pub outlasting_step : (spans : List Span) (table : List ℕ) (i next : ℕ) (d : Span) → AreOutlasting spans (i + 1) table → i < next → next < length spans → ((j : ℕ) (e : Span) → i < j → j < next → (get_or spans j e).to ≤ (get_or spans i e).to) → (get_or spans next d).to ≤ (get_or spans i d).to
+    → (j : ℕ) (e : Span) → i < j → j < get_or table next 0 → (get_or spans j e).to ≤ (get_or spans i e).to
+outlasting_step spans table i next d known after within so_far below j e behind front =
+    let o = known.each next (omega arith) within in
+    let here : (get_or spans next e).to ≤ (get_or spans i e).to =
+    omega (arith, below, ap (λ (s : Span). s.to) (get_or_default spans next d e within), ap (λ (s : Span). s.to) (get_or_default spans i d e (omega arith))) in
+    elim (cases_lt j next) [
+      | inl early ↦ so_far j e behind early
+      | inr past ↦ elim (cases_lt next j) [
+        | inl less ↦
+            let step = o.between j e less front in
+            omega (arith, here, step)
+        | inr same ↦
+            let is : next ≡ j = omega arith in
+            subst (λ (n : ℕ). (get_or spans n e).to ≤ (get_or spans i e).to) is here
+      ]
+    ]
+
+-- one more line of the table
+pub outlasting_more : (spans : List Span) (table : List ℕ) (i next : ℕ) → i < length spans → AreOutlasting spans (i + 1) table → IsOutlasting spans i next → AreOutlasting spans i (set table i next)
+outlasting_more spans table i next within known is = record {
+  as_many = length-set table i next ∙ known.as_many;
+  each = λ k from inside.
+      elim (cases_lt i k) [
+        | inl less ↦
+            subst (IsOutlasting spans k) (sym (get_or-set_other table i k next 0 (λ t. omega arith))) (known.each k (omega arith) inside)
+        | inr past ↦
+            let same : i ≡ k = omega arith in
+            subst (λ (n : ℕ). IsOutlasting spans n (get_or (set table i next) n 0)) same
+            (subst (IsOutlasting spans i) (sym (get_or-set_same table i next 0 (omega (arith, within, known.as_many)))) is)
+      ];
+}
+
+-- the same of the region that is looked up
+crossed_when :
+    (spans : List Span) (ordered : AllPairs ComesBefore spans) (i next : ℕ) (is : IsOutlasting spans i next) (d : Span) → next < length spans → (b : Bool) → ltb (get_or spans next d).from (get_or spans i d).to ≡ b → MatchBool b (IsCrossed spans i) (IsCrossed spans i → ⊥)
+crossed_when spans ordered i next is d within true e =
+    crossed_by spans ordered i next is d within (ltb-true (get_or spans next d).from (get_or spans i d).to e)
+crossed_when spans ordered i next is d within false e =
+    let far = ltb-false (get_or spans next d).from (get_or spans i d).to e in
+    let after = is.after in
+    not_crossed spans ordered i next is
+    (λ f _. omega (arith, far, ap (λ (s : Span). s.from) (get_or_default spans next d f within), ap (λ (s : Span). s.to) (get_or_default spans i d f (omega arith))))
+
+pub crossed_test :
+    (spans : List Span) (ordered : AllPairs ComesBefore spans) (i next : ℕ) (is : IsOutlasting spans i next) (other d : Span) → next < length spans → get_or spans next d ≡ other → MatchBool (ltb other.from (get_or spans i d).to) (IsCrossed spans i) (IsCrossed spans i → ⊥)
+crossed_test spans ordered i next is other d within here =
+    subst (λ (o : Span). MatchBool (ltb o.from (get_or spans i d).to) (IsCrossed spans i) (IsCrossed spans i → ⊥)) here
+    (crossed_when spans ordered i next is d within (ltb (get_or spans next d).from (get_or spans i d).to) refl)
+
+-- nothing crosses it where none ends behind it
+pub crossed_never : (spans : List Span) (ordered : AllPairs ComesBefore spans) (i next : ℕ) → IsOutlasting spans i next → length spans ≤ next → IsCrossed spans i → ⊥
+crossed_never spans ordered i next is past = not_crossed spans ordered i next is (λ d within. absurd (omega arith))

@@ -1,5 +1,5 @@
 -- Regions in the order of their tree, and the nodes that they become.
-use Rattle.std.specs.Prelude.{◌≡◌, ◌≢◌, ◌⊎◌, ℕ, ◌+◌, ◌-◌, ◌<◌, ◌≤◌, Bool, Option, Some, None, List, [], ◌∷◌, ◌++◌, ◌==◌, if◌then◌else◌, length, slice_index, slice_index_or, AllPairs, IsPermutation}
+use Rattle.std.specs.Prelude.{◌≡◌, ◌≢◌, ◌⊎◌, ℕ, ◌+◌, ◌<◌, ◌≤◌, Bool, Option, Some, None, List, [], ◌∷◌, ◌++◌, ◌==◌, if◌then◌else◌, length, slice_index, slice_index_or, AllPairs, IsPermutation}
 use Rattle.cil_body.specs.declared.body.Body.{Body}
 use Rattle.cil_body.specs.declared.body.Clause.{Clause}
 use Rattle.cil_regions.specs.declared.region.RegionKind.TheVariants.{Code, Try}
@@ -77,11 +77,6 @@ pub record IsReaching (nodes : List Region) (place at : ℕ) : Type 0 where
 -- s begins within r, and ends behind it
 abbrev pub Crosses : Span → Span → Type 0
 Crosses r s = (r.from < s.from) × (s.from < r.to) × (r.to < s.to)
-
--- the region of this number has the range of the one before it
-abbrev pub IsRepeated : List Span → ℕ → Type 0
-IsRepeated spans i =
-    (0 < i) × ((d : Span) → ((slice_index_or spans (i - 1) d).from ≡ (slice_index_or spans i d).from) × ((slice_index_or spans (i - 1) d).to ≡ (slice_index_or spans i d).to))
 
 -- the regions begin one after another
 abbrev pub AreRising : List Span → Type 0

@@ -1,4 +1,5 @@
 pub mod Region
 pub mod Laid
+pub mod Outlasting
 pub mod Tries
 pub mod Laws

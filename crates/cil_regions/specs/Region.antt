@@ -1,4 +1,4 @@
--- The regions of a body's code (ECMA-335 II.19): sets of ranges, and how they lie in one another.
+-- The regions of a body's code (ECMA-335 I.12.4.2.7, II.19): sets of ranges, and how they lie in one another.
 use Rattle.std.specs.Prelude.{◌≡◌, ◌⊎◌, ℕ, ◌+◌, ◌<◌, ◌≤◌, Bool, true, false, not, ◌&&◌, ◌||◌, ◌==◌, nat_lt, nat_le, if◌then◌else◌, List, [], ◌∷◌, ◌++◌, length, slice_index_or, unwrap_or, position, count_by, All, AllPairs, Contains, IsTrue, IsPermutation}
 use Rattle.std.specs.List.{flat_map, enumerate_from}
 use Rattle.dc_base.specs.declared.failure.Or.{Or}
@@ -126,7 +126,7 @@ abbrev pub IsCatchKind : RegionKind → Type 0
 IsCatchKind (CatchOf class) = Unit {0}
 IsCatchKind _ = ⊥
 
--- the place stands in a catch, and in no finally inside that catch
+-- the place stands in a catch, and in no finally inside that catch (ECMA-335 III.4.24)
 abbrev pub IsInCatch : List Span → ℕ → Type 0
 IsInCatch spans place =
     (c : Span) × Contains spans c × IsCatchKind c.kind × Holds c place

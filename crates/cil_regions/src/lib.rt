@@ -8,6 +8,7 @@
 
 mod laws;
 mod nesting;
+mod overlap;
 mod region;
 mod rethrow;
 mod span;

@@ -1,50 +1,15 @@
-// Whether regions lie in one another as they have to.
+// Whether tries and their handlers have one parent.
 
-ghost use Rattle.std.specs.Prelude.{◌≡◌, ℕ, ◌<◌, ◌≤◌, min, length, slice_index, All, AllPairs, Any, IfOk, MatchBool, MatchOption};
+ghost use Rattle.std.specs.Prelude.{◌≡◌, ℕ, min, length, AllPairs, IfOk, MatchOption};
 ghost use Rattle.cil_body.specs.Range.{HasRanges};
-ghost use Rattle.cil_regions.specs.Region.{AreLaminar, ComesBefore, CrossesAt, IsLeast, IsLooseAt};
-ghost use Rattle.cil_regions.specs.Laid.{AreRising, AreFirsts, AreOrdered, AreLaid, AreChained, AreParents, AgreeAt, IsLeastDisagreement, Crosses, IsRepeated, DifferInName};
+ghost use Rattle.cil_regions.specs.Region.{AreLaminar, IsLeast, IsLooseAt};
+ghost use Rattle.cil_regions.specs.Laid.{AreFirsts, AreOrdered, AreChained, AreParents, IsLeastDisagreement, DifferInName};
 
 use crate::region::{Region, Span};
 use crate::span::is_try;
 use cil_body::{Body, Clause};
 use dc_base::NoMemory;
 use std::alloc::Global;
-
-/// The least start of a region that crosses another one.
-pub fn crossing(spans: &[Span]) -> Option<u32>
-    requires { AllPairs ComesBefore spans.now }
-    ensures { MatchOption result (AllPairs AreLaminar spans.now) (IsLeast (CrossesAt spans.now)) }
-{
-    for (i, span) in spans.iter().enumerate() {
-        if repeats(spans, i) {
-            continue;
-        }
-        if is_crossed(*span, &spans[i + 1..]) {
-            return Some(span.from);
-        }
-    }
-    None
-}
-
-// Whether a region has the range of the one before it, so that it crosses no other than that one does.
-fn repeats(spans: &[Span], i: usize) -> bool
-    requires { i < length spans.now }
-    ensures { MatchBool result (IsRepeated spans.now i) (IsRepeated spans.now i → ⊥) }
-{
-    i > 0 && spans[i - 1].from == spans[i].from && spans[i - 1].to == spans[i].to
-}
-
-// Whether one of the regions behind this one crosses it.
-fn is_crossed(span: Span, later: &[Span]) -> bool
-    requires { AreRising later.now }
-    ensures { MatchBool result (Any (Crosses span) later.now) (All (λ other. Crosses span other → ⊥) later.now) }
-{
-    later
-        .iter()
-        .take_while(|other| other.from < span.to)
-        .any(|other| span.from < other.from && span.to < other.to)
-}
 
 /// The least start of a clause's try or handler that have not one parent.
 pub fn loose(

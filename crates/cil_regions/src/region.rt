@@ -5,7 +5,8 @@ ghost use Rattle.cil_body.specs.Range.{HasRanges};
 ghost use Rattle.cil_regions.specs.Region.{IsNested, IsRegionTree, IsRegionsRefused};
 ghost use Rattle.cil_regions.specs.Laid.{IsTree};
 
-use crate::nesting::{crossing, loose};
+use crate::nesting::loose;
+use crate::overlap::crossing;
 use crate::rethrow::misplaced;
 use crate::span::{firsts, ordered};
 use crate::tree::{nodes, too_deep};
@@ -47,7 +48,7 @@ pub enum RegionFault {
     /// parent than its partner.
     #[error("the region from {0} on crosses another one, or has another parent than its partner")]
     Nest(u32),
-    /// The least place of a `rethrow` that stands in no catch, or in a finally inside it.
+    /// The least place of a `rethrow` (ECMA-335 III.4.24) that stands in no catch, or in a finally inside it.
     #[error("a rethrow at {0} stands in no catch")]
     RethrowPlace(u32),
     /// The least start of a region that stands in more than 40.
@@ -90,7 +91,7 @@ fn nested(alloc: Global, body: &Body) -> Result<Vec<Region>, Or<RegionFault>>
 {
     let firsts = firsts(alloc, body.clauses.items())?;
     let spans = ordered(alloc, body, firsts.as_slice())?;
-    if let Some(place) = crossing(spans.as_slice()) {
+    if let Some(place) = crossing(alloc, spans.as_slice())? {
         return Err(Or::Fault(RegionFault::Nest(place)));
     }
     let nodes = nodes(alloc, spans.as_slice())?;

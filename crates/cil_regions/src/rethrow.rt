@@ -1,4 +1,4 @@
-// Where a rethrow may stand.
+// Where a rethrow may stand (ECMA-335 III.4.24).
 
 ghost use Rattle.std.specs.Prelude.{◌≡◌, ℕ, ◌≤◌, ◌<◌, length, slice_index_or, All, MatchBool, MatchOption};
 ghost use Rattle.std.specs.List.Sorted.{IsNonDecreasingBy};

@@ -1,4 +1,5 @@
 use Rattle.std.proofs.Common.{List, length, sym, subst, ap, arith}
+use Rattle.std.proofs.lemmas.Option.{MatchOption-at_none, MatchOption-at_some}
 use Rattle.std.specs.List.{AllPairs}
 use Rattle.cil_regions.specs.declared.region.Span.{Span}
 use Rattle.cil_regions.specs.Region.{AreLaminar, CrossesAt, IsLeast}
@@ -10,7 +11,7 @@ use Rattle.cil_regions.proofs.region.nested.Goals as goal
 pub returns-in-Some-clause-fault : goal.returns-in-Some-clause-fault
 returns-in-Some-clause-fault c =
     bad_crossing c.args.body.now c.in_ok-spans.spans.items c.in_ok-spans.ensures c.in-Some.place
-    (subst (λ (ss : List Span). IsLeast (CrossesAt ss) c.in-Some.place) c.as_slice-2.ensures.value c.in-Some.ensures)
+    (subst (λ (ss : List Span). IsLeast (CrossesAt ss) c.in-Some.place) c.as_slice-2.ensures.value (MatchOption-at_some _ _ c.in-Some.place c.in-Some.is c.in_ok-place.ensures))
 
 pub nodes-requires-clause-few : goal.nodes-requires-clause-few
 nodes-requires-clause-few c =
@@ -23,15 +24,15 @@ nodes-requires-clause-laid c =
 
 pub returns-in-Some-2-clause-fault : goal.returns-in-Some-2-clause-fault
 returns-in-Some-2-clause-fault c =
-    let laminar = subst (AllPairs AreLaminar) c.as_slice-2.ensures.value c.in_default.ensures in
-    bad_loose c.args.body.now c.in_ok-place.field-0 c.in-Some-2.place (is_laminar c.args.body.now c.in_ok-spans.spans.items c.in_ok-spans.ensures laminar) c.in_ok-place.ensures c.in-Some-2.is
+    let laminar = subst (AllPairs AreLaminar) c.as_slice-2.ensures.value (MatchOption-at_none _ _ c.in_default.is c.in_ok-place.ensures) in
+    bad_loose c.args.body.now c.in_ok-place-2.field-0 c.in-Some-2.place (is_laminar c.args.body.now c.in_ok-spans.spans.items c.in_ok-spans.ensures laminar) c.in_ok-place-2.ensures c.in-Some-2.is
 
 pub returns-clause-nested : goal.returns-clause-nested
 returns-clause-nested c =
     let body = c.args.body.now in
     let spans = c.in_ok-spans.spans.items in
-    let laminar = subst (AllPairs AreLaminar) c.as_slice-2.ensures.value c.in_default.ensures in (
-      is_nested body c.in_ok-place.field-0 (is_laminar body spans c.in_ok-spans.ensures laminar) c.in_ok-place.ensures c.in_default-2.not-Some,
+    let laminar = subst (AllPairs AreLaminar) c.as_slice-2.ensures.value (MatchOption-at_none _ _ c.in_default.is c.in_ok-place.ensures) in (
+      is_nested body c.in_ok-place-2.field-0 (is_laminar body spans c.in_ok-spans.ensures laminar) c.in_ok-place-2.ensures c.in_default-2.not-Some,
       is_tree body spans c.in_ok-nodes.nodes.items c.requires c.in_ok-spans.ensures laminar
           (subst (λ (ss : List Span). AreChained ss c.in_ok-nodes.nodes.items) c.as_slice-3.ensures.value c.in_ok-nodes.ensures),
     )
