@@ -1,5 +1,5 @@
 -- The numbers of places among those where instructions start.
-use Rattle.std.proofs.Common.{◌≡◌, ℕ, ◌+◌, ◌<◌, ◌≤◌, ◌==◌, Bool, true, false, not, cond, List, [], ◌∷◌, ◌++◌, length, map, take, get_or, nat_lt, slice_get, position, None, Some, inl, inr, sym, refl, ap, ◌∙◌, subst, arith}
+use Rattle.std.proofs.Common.{◌≡◌, ℕ, ◌+◌, ◌<◌, ◌≤◌, ◌==◌, Bool, true, false, not, cond, List, [], ◌∷◌, ◌++◌, length, map, take, get_or, nat_lt, slice_get, position, None, Some, inl, inr, refl, ap, ◌∙◌, arith}
 use Rattle.std.proofs.lemmas.Bool.{both_ways, lt-ltb, ltb-true, ltb-false, eqb-true, eq-eqb, ne_eqb, cases_lt}
 use Rattle.std.proofs.lemmas.List.{take_more, map_push}
 use Rattle.std.proofs.lemmas.List.Sums.{prefix_len-le-length, position_or_len_is, passes_at_first, fails_before_first}
@@ -7,7 +7,7 @@ use Rattle.std.proofs.lemmas.Option.{slice_get-get_or}
 use Rattle.std.proofs.lemmas.List.Sorted.{non_decreasing_from_is_sorted}
 use Rattle.std.specs.Bool.{OnTrue}
 use Rattle.std.specs.Ordering.{nat_cmp, is_le, is_some_and}
-use Rattle.std.specs.List.{IsAllAdjacentAnswer, Contains, position_or_len}
+use Rattle.std.specs.List.{IsAllAdjacentAnswer, Contains}
 use Rattle.std.specs.List.Sorted.{IsNonDecreasing, IsPartitionPoint}
 use Rattle.cil_rows.specs.Code.{number_at}
 

@@ -1,5 +1,5 @@
 -- What each instruction does, by its mnemonic (ECMA-335 III.3 and III.4).
-use Rattle.std.specs.Prelude.{ℕ, Bool, true, false, ℤ, pos, negsuc, List}
+use Rattle.std.specs.Prelude.{ℕ, true, false, ℤ, pos, negsuc, List}
 use Rattle.dc_base.specs.declared.ty.Prim_.TheVariants.{I1, U1, I2, U2, I4, U4, I8, U8}
 use Rattle.cil_instruction.specs.declared.opcode.Op.{Op}
 use Rattle.cil_instruction.specs.declared.opcode.Op.TheVariants as op

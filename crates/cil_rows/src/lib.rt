@@ -15,6 +15,8 @@ mod flow;
 mod instruction;
 mod row;
 mod slots;
+#[cfg(test)]
+mod tests;
 
 pub use code::{numbers_are_places, rows_of};
 pub use instruction::row_of;

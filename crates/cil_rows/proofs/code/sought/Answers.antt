@@ -1,4 +1,4 @@
-use Rattle.std.proofs.Common.{rules, sym, ◌∙◌}
+use Rattle.std.proofs.Common.{rules, sym}
 use Rattle.cil_rows.proofs.Numbers.{absent}
 use Rattle.cil_rows.proofs.code.sought.Goals as goal
 
