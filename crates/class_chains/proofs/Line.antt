@@ -269,7 +269,7 @@ settled ways order marks root between lt old =
     by_mark EndsMark at = between.known root at
 
 -- when all numbers stand in the order
-pub complete : (ways : List (List ℕ)) (order : List ℕ) (marks : List Mark) → IsBetween ways order marks → ((s : ℕ) → s < length ways → Ends (IsWay ways) s × ((k : ℕ) × (slice_get order k ≡ Some s))) → IsAboveFirst ways order
+pub complete : (ways : List (List ℕ)) (order : List ℕ) (marks : List Mark) → IsBetween ways order marks → ((s : ℕ) → s < length ways → Ends (IsWay ways) s × ((k : ℕ) × (slice_get order k ≡ Some s))) → IsAboveFirst (IsWay ways) (length ways) order
 complete ways order marks between all = record {
   all = λ t lt. (all t lt).1;
   within = between.ordered.within;

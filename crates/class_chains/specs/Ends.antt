@@ -7,6 +7,11 @@ use Rattle.dc_base.specs.declared.failure.Or.TheVariants.{NoMemory, Fault}
 pub data Ends (up : ℕ → ℕ → Type 0) : ℕ → Type 0 where
   ends : (t : ℕ) → ((b : ℕ) → up t b → Ends up b) → Ends up t
 
+-- From the first number some steps up, or none, lead to the second.
+pub data Reaches (up : ℕ → ℕ → Type 0) : ℕ → ℕ → Type 0 where
+  here : (t : ℕ) → Reaches up t t
+  further : (t b a : ℕ) → up t b → Reaches up b a → Reaches up t a
+
 -- the numbers directly above one, none where it is past the list
 abbrev pub ways_of : List (List ℕ) → ℕ → List ℕ
 ways_of ways t = unwrap_or (slice_get ways t) []
@@ -20,11 +25,11 @@ pub record IsFirstOpen (up : ℕ → ℕ → Type 0) (t : ℕ) : Type 0 where
   pub open_ : Ends up t → ⊥
   pub before : (s : ℕ) → s < t → Ends up s
 
--- the numbers of a list in an order in which each stands behind those above it
-pub record IsAboveFirst (ways : List (List ℕ)) (order : List ℕ) : Type 0 where
-  pub all : (t : ℕ) → t < length ways → (k : ℕ) × (slice_get order k ≡ Some t)
-  pub within : (k t : ℕ) → slice_get order k ≡ Some t → t < length ways
-  pub above : (k t b : ℕ) → slice_get order k ≡ Some t → IsWay ways t b → b < length ways → (j : ℕ) × (j < k) × (slice_get order j ≡ Some b)
+-- the numbers below a bound in an order in which each stands behind those above it
+pub record IsAboveFirst (up : ℕ → ℕ → Type 0) (bound : ℕ) (order : List ℕ) : Type 0 where
+  pub all : (t : ℕ) → t < bound → (k : ℕ) × (slice_get order k ≡ Some t)
+  pub within : (k t : ℕ) → slice_get order k ≡ Some t → t < bound
+  pub above : (k t b : ℕ) → slice_get order k ≡ Some t → up t b → b < bound → (j : ℕ) × (j < k) × (slice_get order j ≡ Some b)
 
 -- what is answered in place of an order: want of memory is free, and a number is the first from which a chain doesn't end
 abbrev pub IsOpenAt : (ℕ → ℕ → Type 0) → Or ℕ → Type 0

@@ -115,7 +115,7 @@ fn root_ends(
 /// none above it. It takes the time of one look at each way.
 pub fn above_first(alloc: Global, ways: &[Seq<u32>]) -> Result<Vec<u32>, Or<u32>>
     requires { length ways.now < 2 ^ 32 }
-    ensures order { IfOk result (λ order. IsAboveFirst ways.now order.items) }
+    ensures order { IfOk result (λ order. IsAboveFirst (IsWay ways.now) (length ways.now) order.items) }
     ensures all_end { IfOk result (λ order. (t : ℕ) → Ends (IsWay ways.now) t) }
     ensures open { IfErr result (IsOpenAt (IsWay ways.now)) }
 {

@@ -1,7 +1,7 @@
 -- The list of types, and what its rows name by number (ECMA-335 II.22.37). A number past the list names nothing.
 use Rattle.std.specs.Prelude.{◌≡◌, ◌⊎◌, ℕ, List, Option, Some, None, slice_get}
 use Rattle.dc_base.specs.declared.names.TypeId.{TypeId}
-use Rattle.class_chains.specs.Ends.{Ends}
+use Rattle.class_chains.specs.Ends.{Ends, Reaches}
 use Rattle.class_rows.specs.declared.row.TypeRow.{TypeRow}
 use Rattle.class_rows.specs.declared.row.Kind.{Kind}
 use Rattle.class_rows.specs.declared.row.Kind.TheVariants.{Class, StaticClass, Interface}
@@ -33,9 +33,8 @@ pub record ChainsEnd (types : List TypeRow) : Type 0 where
   pub outers : (t : ℕ) → Ends (IsOuter types) t
 
 -- the type itself, its base, the base of that, and so on up
-pub data InBaseChain (types : List TypeRow) : ℕ → ℕ → Type 0 where
-  here : (t : ℕ) → InBaseChain types t t
-  up : (t b a : ℕ) → IsBase types t b → InBaseChain types b a → InBaseChain types t a
+abbrev pub InBaseChain : List TypeRow → ℕ → ℕ → Type 0
+InBaseChain types t a = Reaches (IsBase types) t a
 
 -- an interface that the type names, or one that such an interface names in turn
 pub data NamesInterface (types : List TypeRow) : ℕ → ℕ → Type 0 where
@@ -47,9 +46,8 @@ abbrev pub IsSuper : List TypeRow → ℕ → ℕ → Type 0
 IsSuper types t a = InBaseChain types t a ⊎ ((b : ℕ) × InBaseChain types t b × NamesInterface types b a)
 
 -- the type itself, the type round it, the one round that, and so on
-pub data IsRound (types : List TypeRow) : ℕ → ℕ → Type 0 where
-  itself : (t : ℕ) → IsRound types t t
-  outside : (t o a : ℕ) → IsOuter types t o → IsRound types o a → IsRound types t a
+abbrev pub IsRound : List TypeRow → ℕ → ℕ → Type 0
+IsRound types t a = Reaches (IsOuter types) t a
 
 -- classes; a static class is one
 abbrev pub IsClass : Kind → Type 0
