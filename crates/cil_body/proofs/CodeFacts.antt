@@ -1,8 +1,8 @@
 -- Code that is cut into instructions: it is cut one by one, its places rise, and each instruction is in its bytes.
 use Rattle.std.proofs.Common.{◌≡◌, ◌≢◌, ℕ, zero, suc, ◌+◌, ◌-◌, ◌^◌, ◌<◌, ◌≤◌, Fits, w32, List, [], ◌∷◌, ◌++◌, length, get_or, take, drop, Ok, sym, ◌∙◌, ap, subst, arith}
 use Rattle.std.proofs.lemmas.List.{drop-drop, length-drop, take_all}
-use Rattle.cil_body.specs.declared.instruction.Found.{Found}
-use Rattle.cil_body.specs.Instruction.{instruction_at}
+use Rattle.cil_instruction.specs.declared.instruction.Found.{Found}
+use Rattle.cil_instruction.specs.Instruction.{instruction_at}
 use Rattle.cil_body.specs.Code.{Placed, Reads, AreInOrder, starts_of}
 
 -- one more instruction behind those that are cut

@@ -1,20 +1,18 @@
 -- What a body is made of, and what a fault of its parts says of it.
-use Rattle.std.proofs.Common.{◌≡◌, inr, ℕ, zero, suc, ◌+◌, ◌<◌, ◌≤◌, Bool, true, false, cond, List, [], ◌∷◌, length, get_or, drop, map, Option, None, Some, Result, Ok, Err, refl, sym, ap, ◌∙◌, subst, arith, All, IfErr, length-take, length-drop}
-use Rattle.std.proofs.lemmas.Result.{IfErr-at_err}
+use Rattle.std.proofs.Common.{◌≡◌, inr, ℕ, zero, suc, ◌+◌, ◌<◌, ◌≤◌, List, [], ◌∷◌, length, get_or, drop, map, refl, sym, ap, ◌∙◌, subst, arith, All, length-take, length-drop}
 use Rattle.dc_base.specs.declared.failure.Or.{Or}
 use Rattle.dc_base.specs.declared.failure.Or.TheVariants.{NoMemory, Fault}
 use Rattle.cil_body.specs.declared.header.Header.{Header}
 use Rattle.cil_body.specs.declared.section.RawClause.{RawClause}
-use Rattle.cil_body.specs.declared.instruction.Found.{Found}
 use Rattle.cil_body.specs.declared.body.Body.{Body}
 use Rattle.cil_body.specs.declared.body.Clause.{Clause}
-use Rattle.cil_body.specs.declared.body.Instr.{Instr}
-use Rattle.cil_body.specs.declared.fault.BodyFault.{BodyFault}
-use Rattle.cil_body.specs.declared.fault.BodyCause.{BodyCause}
-use Rattle.cil_body.specs.declared.fault.BodyCause.TheVariants.{BadHeader, TooLong, Truncated, BadOpcode, OutOfProfile, BadTarget, BadSection, OutOfProfileClause}
+use Rattle.cil_instruction.specs.declared.instruction.Instr.{Instr}
+use Rattle.cil_instruction.specs.declared.fault.BodyFault.{BodyFault}
+use Rattle.cil_instruction.specs.declared.fault.BodyCause.{BodyCause}
+use Rattle.cil_instruction.specs.declared.fault.BodyCause.TheVariants.{BadHeader, TooLong, Truncated, BadOpcode, OutOfProfile, BadTarget, BadSection, OutOfProfileClause}
 use Rattle.cil_body.specs.First.{IsFirstOff}
-use Rattle.cil_body.specs.Opcode.{Line, is_left_out, entry_of}
-use Rattle.cil_body.specs.Instruction.{instruction_at, prefixed, with_code, with_entry}
+use Rattle.cil_instruction.specs.Laws.{IsCutCause}
+use Rattle.cil_instruction.proofs.Consequences.{cause_is_of_cut}
 use Rattle.cil_body.specs.Code.{Placed, Reads, IsWhole, IsCode, IsAimed, IsCutFault, IsAimFault, AreInOrder, code_of, starts_of, instr_of}
 use Rattle.cil_body.specs.Section.{AreClauses, IsSectionFault, IsTaken, all_clauses, IsClause, IsBadSection, sections_place}
 use Rattle.cil_body.specs.Body.{IsBody, IsRefused, IsWrong, IsClauseFault, IsAimedCode, HasClauses, StopsAt, clause_of}
@@ -59,17 +57,7 @@ is_code bytes limit h code placed whole is reads =
 
 -- ---- why a cut stops
 
-abbrev IsStopCause : BodyCause → Type 0
-IsStopCause BadHeader = ⊥
-IsStopCause TooLong = ⊥
-IsStopCause Truncated = Unit {0}
-IsStopCause (BadOpcode code) = Unit {0}
-IsStopCause (OutOfProfile code) = Unit {0}
-IsStopCause BadTarget = ⊥
-IsStopCause BadSection = ⊥
-IsStopCause (OutOfProfileClause kind) = ⊥
-
-stops_at : (bytes : List ℕ) (limit place : ℕ) (cause : BodyCause) → IsStopCause cause → StopsAt bytes limit place cause → IsWrong bytes limit place cause
+stops_at : (bytes : List ℕ) (limit place : ℕ) (cause : BodyCause) → IsCutCause cause → StopsAt bytes limit place cause → IsWrong bytes limit place cause
 stops_at bytes limit place BadHeader is stops = absurd is
 stops_at bytes limit place TooLong is stops = absurd is
 stops_at bytes limit place Truncated is stops = inr stops
@@ -79,33 +67,12 @@ stops_at bytes limit place BadTarget is stops = absurd is
 stops_at bytes limit place BadSection is stops = absurd is
 stops_at bytes limit place (OutOfProfileClause kind) is stops = absurd is
 
-either_cause : (b : Bool) (x y : BodyCause) → IsStopCause x → IsStopCause y → IsStopCause (cond b x y)
-either_cause true x y p q = p
-either_cause false x y p q = q
-
-either_reading : (b : Bool) (x y : Result Found BodyCause) → IfErr x IsStopCause → IfErr y IsStopCause → IfErr (cond b x y) IsStopCause
-either_reading true x y p q = p
-either_reading false x y p q = q
-
-by_entry : (len code : ℕ) (o : Option Line) (bytes : List ℕ) → IfErr (with_entry len code o bytes) IsStopCause
-by_entry len code None bytes = either_cause (is_left_out code) (OutOfProfile code) (BadOpcode code) tt tt
-by_entry len code (Some e) bytes = either_reading _ (Err Truncated) (Ok _) tt tt
-
-by_prefix : (bytes : List ℕ) → IfErr (prefixed bytes) IsStopCause
-by_prefix [] = tt
-by_prefix (c ∷ bytes) = by_entry 2 (0xFE00 + c) (entry_of (0xFE00 + c)) bytes
-
-by_instruction : (bytes : List ℕ) → IfErr (instruction_at bytes) IsStopCause
-by_instruction [] = tt
-by_instruction (b ∷ bytes) =
-    either_reading _ (prefixed bytes) (with_code 1 b bytes) (by_prefix bytes) (by_entry 1 b (entry_of b) bytes)
-
 -- the cut of the code stops
 pub cut_refused : {bytes : List ℕ} {limit : ℕ} {h : Header} (code : List ℕ) → IsWhole bytes limit h → code ≡ code_of bytes h → (e : Or BodyFault) → IsCutFault code h.start e → IsRefused bytes limit e
 cut_refused code whole is NoMemory f = tt
 cut_refused {bytes = bytes} {limit = limit} {h = h} code whole is (Fault fault) (placed, at, rest, reads, more, none, place) =
     let all : Reads 0 (code_of bytes h) placed at rest = subst (λ (x : List ℕ). Reads 0 x placed at rest) is reads in
-    stops_at bytes limit fault.at fault.cause (IfErr-at_err IsStopCause none (by_instruction rest))
+    stops_at bytes limit fault.at fault.cause (cause_is_of_cut rest fault.cause none)
     (h, at, record { whole = whole; code = placed; rest = rest; reads = all; more = more; none = none }, place)
 
 -- ---- where the instructions lead

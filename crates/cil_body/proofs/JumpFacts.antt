@@ -12,17 +12,17 @@ use Rattle.std.proofs.lemmas.List.{drop-drop, get_or_default, map_more, take_all
 use Rattle.std.proofs.lemmas.List.Elements.{All-nil, All-cons, All-more}
 use Rattle.std.proofs.lemmas.List.Sorted.{searched}
 use Rattle.byteorder.specs.Endian.{little_number}
-use Rattle.cil_body.specs.declared.opcode.Operand.{Operand}
-use Rattle.cil_body.specs.declared.opcode.Operand.TheVariants.{Target8, Target32, Switch}
-use Rattle.cil_body.specs.declared.instruction.Found.{Found}
-use Rattle.cil_body.specs.Instruction.{number_of, instruction_at, numbers}
+use Rattle.cil_instruction.specs.declared.opcode.Operand.{Operand}
+use Rattle.cil_instruction.specs.declared.opcode.Operand.TheVariants.{Target8, Target32, Switch}
+use Rattle.cil_instruction.specs.declared.instruction.Found.{Found}
+use Rattle.cil_instruction.specs.Instruction.{number_of, instruction_at, numbers}
 use Rattle.cil_body.specs.Code.{Placed, AreInOrder, HasCases, jumps_by, aim_of, place_of, HasAim, IsAimed, IsTarget, IsInstr, AreTargets, IsAimFault, instr_of, starts_of}
 use Rattle.cil_body.specs.First.{IsFirstOff}
-use Rattle.cil_body.specs.declared.body.Instr.{Instr}
-use Rattle.cil_body.specs.declared.fault.BodyCause.TheVariants.{BadTarget}
+use Rattle.cil_instruction.specs.declared.instruction.Instr.{Instr}
+use Rattle.cil_instruction.specs.declared.fault.BodyCause.TheVariants.{BadTarget}
 use Rattle.dc_base.specs.declared.failure.Or.TheVariants.{Fault}
 use Rattle.cil_body.proofs.FirstFacts.{first_off}
-use Rattle.cil_body.proofs.InstructionFacts.{instruction_at-within, instruction_at-switch, instruction_at-arg}
+use Rattle.cil_instruction.proofs.Consequences.{stands_within, switch_has_cases, operand_is_spelled}
 
 -- what a search among the starts finds
 pub search_hit : (starts : List ℕ) (x : ℕ) (r : Result ℕ ℕ) → IsBinarySearchResult (λ y. nat_cmp y x) starts r → AreInOrder starts → is_ok r ≡ true → Contains starts x
@@ -92,13 +92,13 @@ jumps_by-fit _ arg behind bytes is = All-nil (FitsSigned w32)
 -- a jump is an int
 pub instruction_at-fits : (bytes : List ℕ) (f : Found) → instruction_at bytes ≡ Ok f → All (FitsSigned w32) (jumps_by f.operand f.simple.arg bytes)
 instruction_at-fits bytes f h =
-    let arg = instruction_at-arg bytes f h in
+    let arg = operand_is_spelled bytes f h in
     jumps_by-fit f.operand f.simple.arg arg.0 bytes arg.1
 
 pub instruction_at-cases : (bytes : List ℕ) (f : Found) → instruction_at bytes ≡ Ok f → HasCases f.operand bytes
 instruction_at-cases bytes f h is =
-    let size = instruction_at-switch bytes f h is in
-    let within = instruction_at-within bytes f h in
+    let size = switch_has_cases bytes f h is in
+    let within = stands_within bytes f h in
     omega arith
 
 -- one more jump that leads to a start

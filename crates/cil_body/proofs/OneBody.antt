@@ -5,9 +5,9 @@ use Rattle.cil_body.specs.declared.header.Header.{Header}
 use Rattle.cil_body.specs.declared.section.Section.{Section}
 use Rattle.cil_body.specs.declared.section.RawClause.{RawClause}
 use Rattle.cil_body.specs.declared.body.Body.{Body}
-use Rattle.cil_body.specs.declared.fault.BodyFault.{BodyFault}
-use Rattle.cil_body.specs.declared.fault.BodyCause.{BodyCause}
-use Rattle.cil_body.specs.declared.fault.BodyCause.TheVariants.{BadHeader, TooLong, Truncated, BadOpcode, OutOfProfile, BadTarget, BadSection, OutOfProfileClause}
+use Rattle.cil_instruction.specs.declared.fault.BodyFault.{BodyFault}
+use Rattle.cil_instruction.specs.declared.fault.BodyCause.{BodyCause}
+use Rattle.cil_instruction.specs.declared.fault.BodyCause.TheVariants.{BadHeader, TooLong, Truncated, BadOpcode, OutOfProfile, BadTarget, BadSection, OutOfProfileClause}
 use Rattle.cil_body.specs.First.{IsFirstOff}
 use Rattle.cil_body.specs.Header.{IsHeader, IsBadHeader}
 use Rattle.cil_body.specs.Code.{Placed, IsWhole, IsCode, IsAimed, code_of, starts_of}

@@ -1,9 +1,9 @@
 -- Bytes have one code, or it stops in one way.
 use Rattle.std.proofs.Common.{◌≡◌, ℕ, ◌+◌, List, [], ◌∷◌, drop, Result, Ok, Err, refl, sym, ◌∙◌, ap, subst}
-use Rattle.cil_body.specs.declared.instruction.Found.{Found}
+use Rattle.cil_instruction.specs.declared.instruction.Found.{Found}
 use Rattle.cil_body.specs.declared.header.Header.{Header}
-use Rattle.cil_body.specs.declared.fault.BodyCause.{BodyCause}
-use Rattle.cil_body.specs.Instruction.{instruction_at}
+use Rattle.cil_instruction.specs.declared.fault.BodyCause.{BodyCause}
+use Rattle.cil_instruction.specs.Instruction.{instruction_at}
 use Rattle.cil_body.specs.Code.{Placed, Reads, code_of, IsCode, IsStop}
 use Rattle.cil_body.proofs.OneHeader.{one_header}
 

@@ -10,7 +10,7 @@ use Rattle.cil_body.specs.declared.body.Body.{Body}
 use Rattle.cil_body.specs.Code.{Placed, Reads, starts_of}
 use Rattle.cil_body.specs.Section.{clause_width, clauses_from, clauses_of, all_clauses, Chained, AreSections, sections_place, IsBound, IsClause}
 use Rattle.cil_body.specs.Body.{clause_of, IsBody}
-use Rattle.cil_body.specs.Region.{IsRange, HasRanges}
+use Rattle.cil_body.specs.Range.{IsRange, HasRanges}
 
 -- each place of the code is before its end
 reads_le : (at : ℕ) (bytes : List ℕ) (code : List Placed) (end : ℕ) (rest : List ℕ) → Reads at bytes code end rest → at ≤ end

@@ -11,7 +11,7 @@ use Rattle.std.proofs.lemmas.Bool.{cases_lt}
 use Rattle.cil_body.specs.declared.header.Header.{Header}
 use Rattle.cil_body.specs.declared.section.Section.{Section}
 use Rattle.cil_body.specs.declared.section.RawClause.{RawClause}
-use Rattle.cil_body.specs.declared.fault.BodyFault.{BodyFault}
+use Rattle.cil_instruction.specs.declared.fault.BodyFault.{BodyFault}
 use Rattle.dc_base.specs.declared.failure.Or.{Or}
 use Rattle.dc_base.specs.declared.failure.Or.TheVariants.{NoMemory, Fault}
 use Rattle.cil_body.specs.First.{IsFirstOff}

@@ -9,9 +9,9 @@ use Rattle.cil_body.specs.declared.body.Body.{Body}
 use Rattle.cil_body.specs.declared.body.Clause.{Clause}
 use Rattle.cil_body.specs.declared.body.ClauseKind.{ClauseKind}
 use Rattle.cil_body.specs.declared.body.ClauseKind.TheVariants.{Catch, Finally}
-use Rattle.cil_body.specs.declared.fault.BodyFault.{BodyFault}
-use Rattle.cil_body.specs.declared.fault.BodyCause.{BodyCause}
-use Rattle.cil_body.specs.declared.fault.BodyCause.TheVariants.{BadHeader, TooLong, Truncated, BadOpcode, OutOfProfile, BadTarget, BadSection, OutOfProfileClause}
+use Rattle.cil_instruction.specs.declared.fault.BodyFault.{BodyFault}
+use Rattle.cil_instruction.specs.declared.fault.BodyCause.{BodyCause}
+use Rattle.cil_instruction.specs.declared.fault.BodyCause.TheVariants.{BadHeader, TooLong, Truncated, BadOpcode, OutOfProfile, BadTarget, BadSection, OutOfProfileClause}
 use Rattle.cil_body.specs.First.{IsFirstOff}
 use Rattle.cil_body.specs.Header.{IsHeader, IsBadHeader}
 use Rattle.cil_body.specs.Code.{Placed, IsCode, IsStop, IsAimed, code_of, starts_of, instr_of}

@@ -3,15 +3,15 @@
 use Rattle.std.specs.Prelude.{◌≡◌, ◌≢◌, ℕ, ◌+◌, ◌*◌, ◌≤◌, ◌<◌, ℤ, pos, negsuc, ◌+ℤ◌, List, [], ◌∷◌, length, take, drop, map, slice_index, Ok, Err, All, Contains}
 use Rattle.dc_base.specs.declared.failure.Or.{Or}
 use Rattle.dc_base.specs.declared.failure.Or.TheVariants.{NoMemory, Fault}
-use Rattle.cil_body.specs.declared.opcode.Operand.{Operand}
-use Rattle.cil_body.specs.declared.opcode.Operand.TheVariants.{Target8, Target32, Switch}
-use Rattle.cil_body.specs.declared.instruction.Found.{Found}
+use Rattle.cil_instruction.specs.declared.opcode.Operand.{Operand}
+use Rattle.cil_instruction.specs.declared.opcode.Operand.TheVariants.{Target8, Target32, Switch}
+use Rattle.cil_instruction.specs.declared.instruction.Found.{Found}
 use Rattle.cil_body.specs.declared.header.Header.{Header}
-use Rattle.cil_body.specs.declared.fault.BodyFault.{BodyFault}
-use Rattle.cil_body.specs.declared.fault.BodyCause.{BodyCause}
-use Rattle.cil_body.specs.declared.fault.BodyCause.TheVariants.{BadTarget}
-use Rattle.cil_body.specs.declared.body.Instr.{Instr}
-use Rattle.cil_body.specs.Instruction.{instruction_at, numbers}
+use Rattle.cil_instruction.specs.declared.fault.BodyFault.{BodyFault}
+use Rattle.cil_instruction.specs.declared.fault.BodyCause.{BodyCause}
+use Rattle.cil_instruction.specs.declared.fault.BodyCause.TheVariants.{BadTarget}
+use Rattle.cil_instruction.specs.declared.instruction.Instr.{Instr}
+use Rattle.cil_instruction.specs.Instruction.{instruction_at, numbers}
 use Rattle.cil_body.specs.First.{IsFirstOff}
 use Rattle.cil_body.specs.Header.{IsHeader}
 use Rattle.byteorder.specs.Endian.{little_number}

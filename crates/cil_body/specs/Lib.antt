@@ -1,15 +1,8 @@
-pub mod Opcode
-pub mod Standard
-pub mod Instruction
 pub mod Number
 pub mod First
 pub mod Header
 pub mod Code
 pub mod Section
 pub mod Body
-pub mod Region
-pub mod Laid
-pub mod Tries
-pub mod Cut
-pub mod Lone
+pub mod Range
 pub mod Laws

@@ -4,8 +4,8 @@ use Rattle.std.specs.Prelude.{◌≡◌, ◌⊎◌, ℕ, zero, suc, ◌+◌, ◌
 use Rattle.std.specs.List.{flat_map}
 use Rattle.dc_base.specs.declared.failure.Or.{Or}
 use Rattle.dc_base.specs.declared.failure.Or.TheVariants.{NoMemory, Fault}
-use Rattle.cil_body.specs.declared.fault.BodyFault.{BodyFault}
-use Rattle.cil_body.specs.declared.fault.BodyCause.TheVariants.{BadSection}
+use Rattle.cil_instruction.specs.declared.fault.BodyFault.{BodyFault}
+use Rattle.cil_instruction.specs.declared.fault.BodyCause.TheVariants.{BadSection}
 use Rattle.cil_body.specs.declared.header.Header.{Header}
 use Rattle.cil_body.specs.declared.section.Section.{Section}
 use Rattle.cil_body.specs.declared.section.RawClause.{RawClause}

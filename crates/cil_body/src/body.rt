@@ -5,21 +5,11 @@ ghost use Rattle.cil_body.specs.Section.{IsTaken, IsTakenKind};
 ghost use Rattle.cil_body.specs.Body.{clause_of, kind_of, IsBody, IsClauseFault, IsRefused};
 
 use crate::code::{aimed, code_of, cut, starts};
-use crate::fault::{BodyCause, BodyFault};
 use crate::header::header_of;
-use crate::opcode::Op;
 use crate::section::{RawClause, raw_clauses};
+use cil_instruction::{BodyCause, BodyFault, Instr};
 use dc_base::{Or, Seq, Token};
 use std::alloc::Global;
-
-/// An instruction with the number that its operand spells, as in [`crate::Simple`], and the places in the code that it
-/// may lead to besides the next one: the aim of a branch, or those of a switch.
-#[derive(Debug, Drop)]
-pub struct Instr {
-    pub op: Op,
-    pub arg: i64,
-    pub targets: Seq<u32>,
-}
 
 /// What a clause does with an exception.
 #[derive(Clone, Copy, Debug, PartialEq, Eq)]

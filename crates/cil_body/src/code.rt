@@ -4,17 +4,14 @@ ghost use Rattle.std.specs.Prelude.{◌≡◌, ◌+◌, ◌*◌, ◌<◌, ◌≤
 ghost use Rattle.std.specs.Int.{cast_signed, w32};
 ghost use Rattle.std.specs.Int.RustNames.{FitsSigned};
 ghost use Rattle.byteorder.specs.Endian.{little_number};
-ghost use Rattle.cil_body.specs.Instruction.{instruction_at};
+ghost use Rattle.cil_instruction.specs.Instruction.{instruction_at};
 ghost use Rattle.cil_body.specs.Header.{IsHeader};
 ghost use Rattle.cil_body.specs.Code.{IsWhole, code_of, Reads, IsAimed, IsCutFault, IsAimFault, starts_of, instr_of, jumps_by, HasCases, AreInOrder, HasAim, IsStart, IsTarget, IsInstr, AreAims, AreTargets};
 ghost use Rattle.cil_body.specs.Body.{IsBodyFault};
 
-use crate::body::Instr;
-use crate::fault::{BodyCause, BodyFault};
 use crate::header::Header;
-use crate::instruction::{Found, first};
-use crate::opcode::Operand;
 use byteorder::{ByteOrder, LittleEndian};
+use cil_instruction::{BodyCause, BodyFault, Found, Instr, Operand, first};
 use dc_base::{NoMemory, Or, Seq};
 use std::alloc::Global;
 

@@ -2,10 +2,10 @@
 
 ghost use Rattle.std.specs.Prelude.{◌≡◌, ◌≤◌, ◌^◌, ◌%◌, length, slice_index, IfOk, IfErr};
 ghost use Rattle.cil_body.specs.Header.{tiny_of, IsHeader, IsBadHeader};
-ghost use Rattle.cil_body.specs.declared.fault.BodyCause.TheVariants.{BadHeader};
+ghost use Rattle.cil_instruction.specs.declared.fault.BodyCause.TheVariants.{BadHeader};
 
-use crate::fault::{BodyCause, BodyFault};
 use byteorder::{ByteOrder, LittleEndian};
+use cil_instruction::{BodyCause, BodyFault};
 use dc_base::Token;
 
 /// What a body's header says (ECMA-335 II.25.4.2, II.25.4.3): where the code begins, counted from the header's first

@@ -3,12 +3,12 @@
 ghost use Rattle.std.specs.Prelude.{◌≡◌, ◌+◌, ◌≤◌, ◌<◌, ◌^◌, ◌++◌, ◌↔◌, length, All, IfOk, IfErr, OnOk, IfSome, IfNone, IsTrue};
 ghost use Rattle.cil_body.specs.Code.{AreInOrder};
 ghost use Rattle.cil_body.specs.Section.{AreClauses, IsSectionFault, IsSection, IsKind, IsClause, AreBounds, IsBound, IsClauseBroken, aligned, clause_width, clauses_of, clause_at, fat_clause, small_clause};
-ghost use Rattle.cil_body.specs.declared.fault.BodyCause.TheVariants.{BadSection};
+ghost use Rattle.cil_instruction.specs.declared.fault.BodyCause.TheVariants.{BadSection};
 ghost use Rattle.cil_body.specs.declared.section.Section.{Section};
 
-use crate::fault::{BodyCause, BodyFault};
 use crate::header::Header;
 use byteorder::{ByteOrder, LittleEndian};
+use cil_instruction::{BodyCause, BodyFault};
 use dc_base::Or;
 use std::alloc::Global;
 

@@ -2,6 +2,4 @@
 
 mod bodies;
 mod instructions;
-mod lone;
-mod regions;
 mod sections;

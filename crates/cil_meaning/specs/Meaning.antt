@@ -1,6 +1,6 @@
 -- What a lone body means: the machine's steps from its first instruction to a ret.
 use Rattle.std.specs.Prelude.{◌≡◌, ℕ, zero, suc, ℤ, List, []}
-use Rattle.cil_body.specs.Cut.{Placed}
+use Rattle.cil_lone.specs.Cut.{Placed}
 use Rattle.cil_meaning.specs.declared.machine.LoneState.{LoneState}
 use Rattle.cil_meaning.specs.declared.machine.LoneStepped.{LoneStepped}
 use Rattle.cil_meaning.specs.declared.machine.LoneStepped.TheVariants.{Next, Done, Stuck}

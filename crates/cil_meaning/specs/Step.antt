@@ -2,15 +2,15 @@
 -- the stack.
 use Rattle.std.specs.Prelude.{ℕ, ◌+◌, ◌^◌, ℤ, ◌+ℤ◌, ◌-ℤ◌, ◌*ℤ◌, pos, negsuc, List, [], ◌∷◌, Option, None, Some, nat_lt, ◌==◌, if◌then◌else◌, slice_get, find, option_map}
 use Rattle.std.specs.Int.{int_wrap, w32}
-use Rattle.cil_body.specs.declared.opcode.Row.{Row}
-use Rattle.cil_body.specs.declared.opcode.Row.TheVariants.{Load, Binary, Return, Beyond}
-use Rattle.cil_body.specs.declared.opcode.Source.{Source}
-use Rattle.cil_body.specs.declared.opcode.Source.TheVariants.{Argument, Number, Operand}
-use Rattle.cil_body.specs.declared.opcode.Two.{Two}
-use Rattle.cil_body.specs.declared.opcode.Two.TheVariants.{Add, Sub, Mul}
-use Rattle.cil_body.specs.declared.instruction.Simple.{Simple}
-use Rattle.cil_body.specs.Opcode.{size_of, row_of}
-use Rattle.cil_body.specs.Cut.{Placed}
+use Rattle.cil_lone.specs.declared.row.Row.{Row}
+use Rattle.cil_lone.specs.declared.row.Row.TheVariants.{Load, Binary, Return, Beyond}
+use Rattle.cil_lone.specs.declared.row.Source.{Source}
+use Rattle.cil_lone.specs.declared.row.Source.TheVariants.{Argument, Number, Operand}
+use Rattle.cil_lone.specs.declared.row.Two.{Two}
+use Rattle.cil_lone.specs.declared.row.Two.TheVariants.{Add, Sub, Mul}
+use Rattle.cil_instruction.specs.declared.instruction.Simple.{Simple}
+use Rattle.cil_lone.specs.Row.{size_of, row_of}
+use Rattle.cil_lone.specs.Cut.{Placed}
 use Rattle.cil_meaning.specs.declared.machine.LoneState.{LoneState}
 use Rattle.cil_meaning.specs.declared.machine.LoneStepped.{LoneStepped}
 use Rattle.cil_meaning.specs.declared.machine.LoneStepped.TheVariants.{Next, Done, Stuck}

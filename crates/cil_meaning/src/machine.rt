@@ -4,7 +4,7 @@ ghost use Rattle.std.specs.Prelude.{◌≡◌, IfOk};
 ghost use Rattle.cil_meaning.specs.Step.{step, standing_at};
 
 use crate::row::act;
-use cil_body::Simple;
+use cil_instruction::Simple;
 use dc_base::{NoMemory, Stack};
 
 /// Where the machine is: the place of the next instruction, the stack, and the arguments.

@@ -1,17 +1,18 @@
 // What an instruction does, by its row.
 
 ghost use Rattle.std.specs.Prelude.{◌≡◌, ◌+◌, ◌^◌, ◌∷◌, IfOk, nat_lt, if◌then◌else◌};
-ghost use Rattle.cil_body.specs.Opcode.{size_of};
+ghost use Rattle.cil_lone.specs.Row.{size_of};
 ghost use Rattle.cil_meaning.specs.Step.{act_of, onward_of, loaded_of, result_of, binary_of, return_of};
 
 use crate::{LoneState, LoneStepped};
-use cil_body::{Op, Row, Simple, Source, Two};
+use cil_instruction::{Op, Simple};
+use cil_lone::{Row, Source, Two, size_of};
 use dc_base::NoMemory;
 
 pub(crate) fn act(simple: Simple, state: LoneState) -> Result<LoneStepped, NoMemory>
     ensures { IfOk result (λ stepped. stepped ≡ act_of simple state) }
 {
-    match simple.op.row() {
+    match Row::of(simple.op) {
         Row::Load(source) => match loaded(source, simple.arg, &state.args) {
             Some(value) => onward(simple, state, value),
             None => Ok(LoneStepped::Stuck),
@@ -89,6 +90,6 @@ fn returned(state: LoneState) -> LoneStepped
 fn place_after(at: u32, op: Op) -> Option<u32>
     ensures { result ≡ (if nat_lt (at + size_of op) (2 ^ 32) then Some (at + size_of op) else None) }
 {
-    let after = (at as usize).checked_add(op.size())?;
+    let after = (at as usize).checked_add(size_of(op))?;
     u32::try_from(after).ok()
 }

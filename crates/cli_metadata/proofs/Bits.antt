@@ -6,7 +6,8 @@ use Rattle.std.proofs.lemmas.Bool.Decides.{eqb_tells}
 use Rattle.std.proofs.lemmas.Nat.{shr-shr, shr_le}
 use Rattle.std.proofs.Math.Nat.{div-one}
 use Rattle.cli_metadata.specs.declared.tables.Column.{Column}
-use Rattle.cli_metadata.specs.Layout.{is_table, are_tables}
+use Rattle.cli_metadata.specs.Standing.{is_table}
+use Rattle.cli_metadata.specs.Layout.{are_tables}
 use Rattle.cli_metadata.specs.Standing.{bit, tables_below}
 
 pub parity : (n : ℕ) → (n % 2 ≡ 0) ⊎ (n % 2 ≡ 1)

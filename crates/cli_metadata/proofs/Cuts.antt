@@ -11,7 +11,7 @@ use Rattle.cli_metadata.specs.declared.layout.Placed.{Placed}
 use Rattle.cli_metadata.specs.Reading.{◌>>=◌, behind, number_at}
 use Rattle.cli_metadata.specs.Widths.{width_of, row_width}
 use Rattle.cli_metadata.specs.Layout.{prefix_at, count_at, counts_at, table_at, tables_at, tables_of}
-use Rattle.cli_metadata.specs.Laws.{AreConsecutive}
+use Rattle.cli_metadata.specs.Standing.{AreConsecutive}
 use Rattle.cli_metadata.specs.Standing.{IsNumber, IsRowCount, bit, tables_below, rows_by_number}
 use Rattle.cli_metadata.specs.Wrong.{field, IsHeaderWrong, IsTableUnknown, IsCountCut, IsTableCut, IsCut}
 use Rattle.cli_metadata.proofs.Places.{ok_is, bind_ok}
@@ -289,10 +289,15 @@ unknown-table-met tables bytes at place w = bound tables bytes at (fault Unknown
 fields-of : (tables : List (List Column)) (bytes : List ℕ) (at sizes place : ℕ) (w : IsCut tables bytes at place) → IsNumber 1 bytes (at + 6) sizes → Fields tables bytes at sizes w.valid
 fields-of tables bytes at sizes place w heap =
     let end : at + 16 + 8 ≤ length bytes = w.fields 6 (field at 0) (omega arith) in
+    let known_sizes = w.fields 3 (field at 0) (omega arith) in
+    let one = known_sizes.1.same in
+    let other = heap.same in
+    let low = known_sizes.2 in
     record {
       major = w.fields 1 (field at 0) (omega arith);
       minor = w.fields 2 (field at 0) (omega arith);
       heap_sizes = heap;
+      known_sizes = omega arith;
       bits = w.bits;
       prefix = omega arith;
       known = known-read tables w.valid w.known;

@@ -8,8 +8,10 @@ use Rattle.cli_metadata.specs.declared.tables.TheConstants.{TABLES}
 use Rattle.cli_metadata.specs.declared.root.Streams.{Streams}
 use Rattle.cli_metadata.specs.Root.{streams_of}
 use Rattle.cli_metadata.specs.Layout.{tables_of}
-use Rattle.cli_metadata.specs.Metadata.{up_to_tables, metadata_with}
-use Rattle.cli_metadata.specs.Wrong.{IsTableUnknown, IsCut, IsWrong, FaultIsWrong, WrongIsFault}
+use Rattle.cli_metadata.specs.Metadata.{up_to_tables}
+use Rattle.cli_metadata.specs.Read.{metadata_with}
+use Rattle.cli_metadata.specs.Wrong.{IsTableUnknown, IsCut, IsWrong}
+use Rattle.cli_metadata.specs.Read.{FaultIsWrong, WrongIsFault}
 use Rattle.cli_metadata.proofs.Standard.{tables_are}
 use Rattle.cli_metadata.proofs.Inside.{streams-stand, streams-read}
 use Rattle.cli_metadata.proofs.Fields.{fault, bind_err}

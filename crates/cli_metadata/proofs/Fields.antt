@@ -1,12 +1,12 @@
 -- Fields, of which the first that isn't right gives the fault.
 use Rattle.std.proofs.Common.{◌≡◌, ◌⊎◌, inl, inr, ℕ, ◌+◌, ◌<◌, ◌≤◌, List, [], ◌∷◌, ◌++◌, length, drop, Bool, true, false, cond, ltb, Result, Ok, Err, refl, sym, ap, subst, ◌∙◌, arith}
-use Rattle.std.specs.Prelude.{All, ◌==◌}
+use Rattle.std.specs.Prelude.{All, nat_lt, ◌==◌}
 use Rattle.byteorder.specs.Endian.{little_number}
 use Rattle.std.proofs.lemmas.Bool.Decides.{eqb_tells}
 use Rattle.cli_metadata.specs.declared.fault.MetaFault.{MetaFault}
 use Rattle.cli_metadata.specs.declared.fault.MetaCause.{MetaCause}
 use Rattle.cli_metadata.specs.Reading.{◌>>=◌, behind, number_at, holds}
-use Rattle.cli_metadata.specs.Wrong.{Field, field, field_of, IsRight, IsFirstWrong}
+use Rattle.cli_metadata.specs.Wrong.{Field, field, field_of, field_below, IsRight, IsFirstWrong}
 use Rattle.cli_metadata.proofs.Named.{all-none, all-more, all-behind, all-first}
 use Rattle.cli_metadata.proofs.Steps.{number-is, number-there, behind-is}
 
@@ -29,6 +29,12 @@ le_or a b = elim (ltb b a) as (λ (t : Bool). ltb b a ≡ t → (a ≤ b) ⊎ (b
 
 pub lt-ltb : (a b : ℕ) → a < b → ltb a b ≡ true
 lt-ltb a b lt = grind arith
+
+pub lt_tells : (a b : ℕ) → ((ltb a b ≡ true) × (a < b)) ⊎ ((ltb a b ≡ false) × (b ≤ a))
+lt_tells a b = elim (ltb a b) as (λ (t : Bool). ltb a b ≡ t → ((ltb a b ≡ true) × (a < b)) ⊎ ((ltb a b ≡ false) × (b ≤ a))) [
+  | true ↦ λ t. inl (t, grind arith)
+  | false ↦ λ t. inr (t, grind arith)
+] refl
 
 -- ---- the first that isn't right, from the front on
 
@@ -122,6 +128,20 @@ value-fails c n v bytes at k f fields Q e more =
       ]
     ]
 
+pub below-fails : {B : Type 0} (c : MetaCause) (n v : ℕ) (bytes : List ℕ) (at : ℕ) (k : ℕ → ℕ → Result B MetaFault) (f : MetaFault) (fields : List Field) (Q : Type 0)
+    → (number_at c n bytes at >>= λ x. (holds (nat_lt x v) c at >>= k x)) ≡ Err f → (at + n ≤ length bytes → k (little_number n (drop at bytes)) at ≡ Err f → Goes bytes c fields f Q) → Goes bytes c (field_below at n v ∷ fields) f Q
+below-fails c n v bytes at k f fields Q e more = elim (guard_fails (length bytes) (at + n) (fault c at) (little_number n (drop at bytes)) (λ x. (holds (nat_lt x v) c at >>= k x)) f e) [
+  | inl a ↦ inl (λ w. let whole = w.1.whole in omega arith, a.1)
+  | inr b ↦ elim (lt_tells (little_number n (drop at bytes)) v) [
+    | inl low ↦ (let t : nat_lt (little_number n (drop at bytes)) v ≡ true = low.0 in
+        let g : k (little_number n (drop at bytes)) at ≡ Err f = elim (holds-fails c (nat_lt (little_number n (drop at bytes)) v) at (k (little_number n (drop at bytes))) f b.1) [ inl z ↦ absurd cc | inr z ↦ z.1 ] in
+        inr ((little_number n (drop at bytes), number-there n bytes at b.0, low.1), more b.0 g))
+    | inr high ↦ (let g : fault c at ≡ f = elim (holds-fails c (nat_lt (little_number n (drop at bytes)) v) at (k (little_number n (drop at bytes))) f b.1) [ inl z ↦ z.1 | inr z ↦ absurd cc ] in
+        let least = high.1 in
+        inl (λ w. let same = w.1.same in let low = w.2 in omega arith, g))
+  ]
+]
+
 -- ---- a fault that is to be met
 
 pub number-cut : (c : MetaCause) (n : ℕ) (bytes : List ℕ) (at : ℕ) → length bytes < at + n → number_at c n bytes at ≡ Err (fault c at)
@@ -176,4 +196,23 @@ value-meets {B} c n v bytes at k fields place w more =
       | inr good ↦ (let same : (little_number n (drop at bytes) == v) ≡ true = elim (eqb_tells (little_number n (drop at bytes)) v) [ inl z ↦ z.0 | inr z ↦ absurd (z.1 (sym good.0.same)) ] in
           bound-ok (number_at c n bytes at) on (little_number n (drop at bytes)) (fault c place) (number-is c n bytes at (little_number n (drop at bytes)) (number-there n bytes at good.0.whole))
           (holds-yes c (little_number n (drop at bytes) == v) at (k (little_number n (drop at bytes))) same ∙ more good.0.whole good.1))
+    ]
+
+pub below-meets : {B : Type 0} (c : MetaCause) (n v : ℕ) (bytes : List ℕ) (at : ℕ) (k : ℕ → ℕ → Result B MetaFault) (fields : List Field) (place : ℕ) → FirstOf bytes (field_below at n v ∷ fields) place
+    → (at + n ≤ length bytes → FirstOf bytes fields place → k (little_number n (drop at bytes)) at ≡ Err (fault c place)) → (number_at c n bytes at >>= λ x. (holds (nat_lt x v) c at >>= k x)) ≡ Err (fault c place)
+below-meets {B} c n v bytes at k fields place w more =
+    let on : ℕ → Result B MetaFault = λ x. (holds (nat_lt x v) c at >>= k x) in
+    elim w [
+      | inl bad ↦ elim (le_or (at + n) (length bytes)) [
+        | inl le ↦ (let high : nat_lt (little_number n (drop at bytes)) v ≡ false = elim (lt_tells (little_number n (drop at bytes)) v) [ inl low ↦ absurd (bad.0 (little_number n (drop at bytes), number-there n bytes at le, low.1)) | inr z ↦ z.0 ] in
+            bound-ok (number_at c n bytes at) on (little_number n (drop at bytes)) (fault c place) (number-is c n bytes at (little_number n (drop at bytes)) (number-there n bytes at le))
+            (holds-no c (nat_lt (little_number n (drop at bytes)) v) at (k (little_number n (drop at bytes))) high ∙ ap (λ (p : ℕ). Err (fault c p)) bad.1))
+        | inr lt ↦ bound-err (number_at c n bytes at) on (fault c place) (number-cut c n bytes at lt ∙ ap (λ (p : ℕ). Err (fault c p)) bad.1)
+      ]
+      | inr good ↦ (let number = good.0.1 in
+          let same = number.same in
+          let its = good.0.2 in
+          let low : nat_lt (little_number n (drop at bytes)) v ≡ true = elim (lt_tells (little_number n (drop at bytes)) v) [ inl z ↦ z.0 | inr z ↦ (let most = z.1 in absurd (omega arith)) ] in
+          bound-ok (number_at c n bytes at) on (little_number n (drop at bytes)) (fault c place) (number-is c n bytes at (little_number n (drop at bytes)) (number-there n bytes at number.whole))
+          (holds-yes c (nat_lt (little_number n (drop at bytes)) v) at (k (little_number n (drop at bytes))) low ∙ more number.whole good.1))
     ]

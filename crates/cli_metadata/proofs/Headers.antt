@@ -5,7 +5,8 @@ use Rattle.std.specs.Str.{bytes_eq}
 use Rattle.cli_metadata.specs.declared.fault.MetaFault.{MetaFault}
 use Rattle.cli_metadata.specs.declared.root.Stream.{Stream}
 use Rattle.cli_metadata.specs.Reading.{◌>>=◌}
-use Rattle.cli_metadata.specs.Root.{Header, header_at, headers_at, named_in, end_of, found_in, streams_in}
+use Rattle.cli_metadata.specs.Standing.{Header}
+use Rattle.cli_metadata.specs.Root.{header_at, headers_at, named_in, end_of, found_in, streams_in}
 
 abbrev after : Header → Result (List Header × ℕ) MetaFault → Result (List Header × ℕ) MetaFault
 after h others = others >>= λ o. Ok (h ∷ o.0, o.1)

@@ -6,7 +6,8 @@ use Rattle.std.proofs.lemmas.Bool.{eqb-true, le-ltb}
 use Rattle.std.proofs.lemmas.Bool.Decides.{eqb_tells}
 use Rattle.byteorder.specs.Endian.{little_number}
 use Rattle.cli_metadata.specs.declared.fault.MetaCause.TheVariants.{BadRoot}
-use Rattle.cli_metadata.specs.Root.{Root, Header, root_of, padded, name_of, name_at, header_at, headers_at}
+use Rattle.cli_metadata.specs.Root.{Root, root_of, name_of, name_at, header_at, headers_at}
+use Rattle.cli_metadata.specs.Standing.{Header, padded}
 use Rattle.cli_metadata.specs.Standing.{IsRoot, IsName, IsHeader, AreHeaders}
 use Rattle.cli_metadata.proofs.Places.{ok_is, bind_ok}
 use Rattle.cli_metadata.proofs.Steps.{guard_is, some_found, found_some, number-goes, behind-goes, holds-goes, number-is, behind-is, number-there}

@@ -5,7 +5,8 @@ use Rattle.std.proofs.lemmas.Bool.{le-ltb}
 use Rattle.cli_metadata.specs.declared.root.Stream.{Stream}
 use Rattle.cli_metadata.specs.declared.root.Streams.{Streams}
 use Rattle.cli_metadata.specs.declared.root.Found.{Found}
-use Rattle.cli_metadata.specs.Root.{Header, root_of, headers_at, named, past_end, earlier, first_past_end, unless_past_end, streams_in, streams_of, IsWithin, AreWithin, AreWithinAll}
+use Rattle.cli_metadata.specs.Standing.{Header, IsWithin, AreWithin}
+use Rattle.cli_metadata.specs.Root.{root_of, headers_at, named, past_end, earlier, first_past_end, unless_past_end, streams_in, streams_of, AreWithinAll}
 use Rattle.cli_metadata.specs.Standing.{IsFirstNamed, AreStreams}
 use Rattle.cli_metadata.proofs.Places.{ok_is, bind_ok}
 use Rattle.cli_metadata.proofs.Named.{is-first, named-is}

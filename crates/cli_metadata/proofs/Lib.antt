@@ -18,3 +18,4 @@ pub mod Passing
 pub mod Prefixes
 pub mod Cuts
 pub mod Fails
+pub mod Readings

@@ -4,7 +4,8 @@ use Rattle.std.specs.Prelude.{position, ◌==◌}
 use Rattle.byteorder.specs.Endian.{little_number}
 use Rattle.cli_metadata.specs.declared.fault.MetaFault.{MetaFault}
 use Rattle.cli_metadata.specs.declared.fault.MetaCause.TheVariants.{BadRoot}
-use Rattle.cli_metadata.specs.Root.{Header, padded, root_of, name_of, name_at, header_at, headers_at}
+use Rattle.cli_metadata.specs.Standing.{Header, padded}
+use Rattle.cli_metadata.specs.Root.{root_of, name_of, name_at, header_at, headers_at}
 use Rattle.cli_metadata.specs.Standing.{IsName, AreHeaders}
 use Rattle.cli_metadata.specs.Wrong.{Field, field, root_fields, header_numbers, IsNoRoot, IsNoHeader}
 use Rattle.cli_metadata.proofs.Steps.{number-is, number-there}

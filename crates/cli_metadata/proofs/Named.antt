@@ -5,7 +5,8 @@ use Rattle.std.specs.Bool.{Decides}
 use Rattle.std.specs.Str.{bytes_eq}
 use Rattle.std.proofs.lemmas.Slice.Eq.{bytes_eq-Decides}
 use Rattle.cli_metadata.specs.declared.root.Stream.{Stream}
-use Rattle.cli_metadata.specs.Root.{Header, named}
+use Rattle.cli_metadata.specs.Standing.{Header}
+use Rattle.cli_metadata.specs.Root.{named}
 use Rattle.cli_metadata.specs.Standing.{IsFirst, IsFirstNamed}
 
 -- ---- of each element

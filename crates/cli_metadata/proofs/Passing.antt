@@ -5,7 +5,8 @@ use Rattle.cli_metadata.specs.declared.fault.MetaFault.{MetaFault}
 use Rattle.cli_metadata.specs.declared.fault.MetaCause.{MetaCause}
 use Rattle.cli_metadata.specs.declared.fault.MetaCause.TheVariants.{BadRoot, BadStream}
 use Rattle.cli_metadata.specs.declared.root.Stream.{Stream}
-use Rattle.cli_metadata.specs.Root.{Header, root_of, headers_at, named, past_end, earlier, first_past_end, unless_past_end, streams_in, streams_of, IsWithin}
+use Rattle.cli_metadata.specs.Standing.{Header, IsWithin}
+use Rattle.cli_metadata.specs.Root.{root_of, headers_at, named, past_end, earlier, first_past_end, unless_past_end, streams_in, streams_of}
 use Rattle.cli_metadata.specs.Wrong.{read_names, IsPassing, IsFirstPassing, IsWithoutTables, IsStreamWrong, IsNoRoot, IsHeaderMissing, IsWrong}
 use Rattle.cli_metadata.proofs.Named.{named-is}
 use Rattle.cli_metadata.proofs.Heads.{root-stands, root-read, headers-stand, headers-read}

@@ -9,7 +9,8 @@ use Rattle.cli_metadata.specs.declared.layout.Placed.{Placed}
 use Rattle.cli_metadata.specs.declared.fault.MetaCause.TheVariants.{Truncated}
 use Rattle.cli_metadata.specs.Reading.{◌>>=◌, behind}
 use Rattle.cli_metadata.specs.Widths.{width_of, row_width}
-use Rattle.cli_metadata.specs.Layout.{is_table, are_tables, count_at, counts_at, table_at, tables_at, ArePlaced}
+use Rattle.cli_metadata.specs.Standing.{is_table, ArePlaced}
+use Rattle.cli_metadata.specs.Layout.{are_tables, count_at, counts_at, table_at, tables_at}
 
 abbrev done : {A : Type 0} → A → Result A MetaFault
 done x = Ok x

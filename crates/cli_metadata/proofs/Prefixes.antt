@@ -1,6 +1,6 @@
 -- Fields of the stream of tables that aren't right, and tables that none has.
 use Rattle.std.proofs.Common.{◌≡◌, ◌≢◌, ◌⊎◌, inl, inr, ◌&&◌, ◌||◌, ℕ, zero, suc, ◌+◌, ◌/◌, ◌%◌, ◌≤◌, List, [], ◌∷◌, ◌++◌, length, drop, get_or, Bool, true, false, Result, Err, refl, sym, ap, ◌∙◌, arith}
-use Rattle.std.specs.Prelude.{All, ◌==◌}
+use Rattle.std.specs.Prelude.{All, nat_lt, ◌==◌}
 use Rattle.byteorder.specs.Endian.{little_number}
 use Rattle.std.proofs.lemmas.Bool.Decides.{eqb_tells}
 use Rattle.cli_metadata.specs.declared.fault.MetaFault.{MetaFault}
@@ -8,14 +8,15 @@ use Rattle.cli_metadata.specs.declared.fault.MetaCause.{MetaCause}
 use Rattle.cli_metadata.specs.declared.fault.MetaCause.TheVariants.{BadHeader, UnknownTable}
 use Rattle.cli_metadata.specs.declared.tables.Column.{Column}
 use Rattle.cli_metadata.specs.Reading.{◌>>=◌, number_at, holds}
-use Rattle.cli_metadata.specs.Layout.{is_table, are_tables, versioned_at, prefix_at}
+use Rattle.cli_metadata.specs.Standing.{is_table}
+use Rattle.cli_metadata.specs.Layout.{are_tables, versioned_at, prefix_at}
 use Rattle.cli_metadata.specs.Standing.{bit}
-use Rattle.cli_metadata.specs.Wrong.{Field, field, field_of, IsRight, header_fields, IsHeaderWrong, IsTableUnknown}
+use Rattle.cli_metadata.specs.Wrong.{Field, field, field_of, field_below, IsRight, header_fields, IsHeaderWrong, IsTableUnknown}
 use Rattle.cli_metadata.proofs.Named.{all-none, all-more}
 use Rattle.cli_metadata.proofs.Steps.{number-is, number-there}
 use Rattle.cli_metadata.proofs.Bits.{parity, bit-first, bit-half, known-stands}
 use Rattle.cli_metadata.proofs.Rows.{Fields, version-stands, version-read}
-use Rattle.cli_metadata.proofs.Fields.{fault, bind_err, le_or, guard_fails, bound-err, bound-ok, FirstOf, first-of, first-wrong, first-longer, Goes, goes, number-fails, value-fails, holds-fails, number-meets, value-meets, number-cut}
+use Rattle.cli_metadata.proofs.Fields.{fault, bind_err, le_or, guard_fails, bound-err, bound-ok, FirstOf, first-of, first-wrong, first-longer, Goes, goes, number-fails, value-fails, below-fails, holds-fails, number-meets, value-meets, below-meets, number-cut}
 
 -- ---- a last field with one value
 
@@ -124,7 +125,7 @@ abbrev from_reserved : ℕ → List Field
 from_reserved at = field (at + 7) 1 ∷ from_valid at
 
 abbrev from_sizes : ℕ → List Field
-from_sizes at = field (at + 6) 1 ∷ from_reserved at
+from_sizes at = field_below (at + 6) 1 8 ∷ from_reserved at
 
 first-split : (bytes : List ℕ) (xs ys : List Field) (place : ℕ) → FirstOf bytes (xs ++ ys) place → FirstOf bytes xs place ⊎ (All (IsRight bytes) xs × FirstOf bytes ys place)
 first-split bytes [] ys place w = inr (all-none (IsRight bytes), w)
@@ -150,7 +151,7 @@ prefix-fails tables bytes at f e =
           let major = v.0.whole in
           let reserved : at + 4 ≤ length bytes = omega arith in
           let w : Goes bytes BadHeader (from_sizes at) f ((are_tables (little_number 8 (drop (at + 8) bytes)) tables ≡ false) × (fault UnknownTable (at + 8) ≡ f)) =
-          number-fails BadHeader 1 bytes (at + 6) _ f (from_reserved at) ((are_tables (little_number 8 (drop (at + 8) bytes)) tables ≡ false) × (fault UnknownTable (at + 8) ≡ f)) a.2 (λ b g.
+          below-fails BadHeader 1 8 bytes (at + 6) _ f (from_reserved at) ((are_tables (little_number 8 (drop (at + 8) bytes)) tables ≡ false) × (fault UnknownTable (at + 8) ≡ f)) a.2 (λ b g.
           number-fails BadHeader 1 bytes (at + 7) _ f (from_valid at) ((are_tables (little_number 8 (drop (at + 8) bytes)) tables ≡ false) × (fault UnknownTable (at + 8) ≡ f)) g (λ c h.
           number-fails BadHeader 8 bytes (at + 8) _ f (sorted_field at) ((are_tables (little_number 8 (drop (at + 8) bytes)) tables ≡ false) × (fault UnknownTable (at + 8) ≡ f)) h (λ d i.
           number-fails BadHeader 8 bytes (at + 16) _ f [] ((are_tables (little_number 8 (drop (at + 8) bytes)) tables ≡ false) × (fault UnknownTable (at + 8) ≡ f)) i (λ x j.
@@ -183,7 +184,7 @@ header-wrong-meets tables bytes at place w = elim (first-split bytes (version_fi
   | inl a ↦ (let none = version-meets bytes at place a in rw none refl)
   | inr a ↦ (let v = version-read bytes at (a.0 1 (field at 0) (omega arith)) (a.0 2 (field at 0) (omega arith)) in
       bound-ok (versioned_at bytes at) _ (at + 5) (fault BadHeader place) v (
-      number-meets BadHeader 1 bytes (at + 6) _ (from_reserved at) place a.1 (λ b g.
+      below-meets BadHeader 1 8 bytes (at + 6) _ (from_reserved at) place a.1 (λ b g.
       number-meets BadHeader 1 bytes (at + 7) _ (from_valid at) place g (λ c h.
       number-meets BadHeader 8 bytes (at + 8) _ (sorted_field at) place h (λ d i.
       number-meets BadHeader 8 bytes (at + 16) _ [] place i (λ x j. absurd j))))))
@@ -194,12 +195,15 @@ unfolding prefix_at
 unknown-table-meets tables bytes at place w =
     let v = version-read bytes at (w.fields 1 (field at 0) (omega arith)) (w.fields 2 (field at 0) (omega arith)) in
     let end : at + 16 + 8 ≤ length bytes = w.fields 6 (field at 0) (omega arith) in
-    let a = number-is BadHeader 1 bytes (at + 6) (little_number 1 (drop (at + 6) bytes)) (number-there 1 bytes (at + 6) (omega arith)) in
+    let sizes = w.fields 3 (field at 0) (omega arith) in
+    let low = sizes.2 in
+    let few : nat_lt sizes.0 8 ≡ true = grind arith in
+    let a = number-is BadHeader 1 bytes (at + 6) sizes.0 sizes.1 in
     let b = number-is BadHeader 1 bytes (at + 7) (little_number 1 (drop (at + 7) bytes)) (number-there 1 bytes (at + 7) (omega arith)) in
     let c = number-is BadHeader 8 bytes (at + 8) w.valid w.bits in
     let d = number-is BadHeader 8 bytes (at + 16) (little_number 8 (drop (at + 16) bytes)) (number-there 8 bytes (at + 16) (omega arith)) in
     let unknown = unknown-meets tables w.valid w.table w.set w.unknown in
-    let made : prefix_at tables bytes at ≡ Err (fault UnknownTable (at + 8)) = rw (v, a, b, c, d, unknown) refl in
+    let made : prefix_at tables bytes at ≡ Err (fault UnknownTable (at + 8)) = rw (v, a, few, b, c, d, unknown) refl in
     made ∙ ap (λ (p : ℕ). Err (fault UnknownTable p)) (sym w.its)
 
 -- the fields of a stream of tables that goes on are right
@@ -210,7 +214,7 @@ fields-right tables bytes at sizes valid w =
     let a : All (IsRight bytes) (sorted_field at) = all-more (IsRight bytes) (field (at + 16) 8) [] (omega arith) (all-none (IsRight bytes)) in
     let b : All (IsRight bytes) (from_valid at) = all-more (IsRight bytes) (field (at + 8) 8) (sorted_field at) (omega arith) a in
     let c : All (IsRight bytes) (from_reserved at) = all-more (IsRight bytes) (field (at + 7) 1) (from_valid at) (omega arith) b in
-    let d : All (IsRight bytes) (from_sizes at) = all-more (IsRight bytes) (field (at + 6) 1) (from_reserved at) (omega arith) c in
+    let d : All (IsRight bytes) (from_sizes at) = all-more (IsRight bytes) (field_below (at + 6) 1 8) (from_reserved at) (sizes, w.heap_sizes, w.known_sizes) c in
     let e : All (IsRight bytes) (field_of (at + 5) 1 0 ∷ from_sizes at) = all-more (IsRight bytes) (field_of (at + 5) 1 0) (from_sizes at) w.minor d in
     let f : All (IsRight bytes) (field_of (at + 4) 1 2 ∷ field_of (at + 5) 1 0 ∷ from_sizes at) = all-more (IsRight bytes) (field_of (at + 4) 1 2) (field_of (at + 5) 1 0 ∷ from_sizes at) w.major e in
     all-more (IsRight bytes) (field at 4) (field_of (at + 4) 1 2 ∷ field_of (at + 5) 1 0 ∷ from_sizes at) (omega arith) f

@@ -1,6 +1,6 @@
 -- The tables, as they are read and as they stand.
-use Rattle.std.proofs.Common.{◌≡◌, ℕ, suc, ◌+◌, ◌-◌, ◌*◌, ◌≤◌, List, [], ◌∷◌, length, drop, get_or, true, Ok, refl, sym, ap, subst, ◌∙◌, arith, drop-cons, add-one, length-drop}
-use Rattle.std.specs.Prelude.{map, slice_index, ◌==◌}
+use Rattle.std.proofs.Common.{◌≡◌, ℕ, suc, ◌+◌, ◌-◌, ◌*◌, ◌<◌, ◌≤◌, List, [], ◌∷◌, length, drop, get_or, true, Ok, refl, sym, ap, subst, ◌∙◌, arith, drop-cons, add-one, length-drop}
+use Rattle.std.specs.Prelude.{map, slice_index, nat_lt, ◌==◌}
 use Rattle.std.proofs.lemmas.Bool.{eqb-true}
 use Rattle.std.proofs.lemmas.List.{drop_all, length-map}
 use Rattle.byteorder.specs.Endian.{little_number}
@@ -10,8 +10,9 @@ use Rattle.cli_metadata.specs.declared.widths.Width.{Width}
 use Rattle.cli_metadata.specs.declared.layout.Prefix.{Prefix}
 use Rattle.cli_metadata.specs.declared.layout.Placed.{Placed}
 use Rattle.cli_metadata.specs.Widths.{width_of, row_width}
-use Rattle.cli_metadata.specs.Layout.{are_tables, versioned_at, prefix_at, counts_at, table_at, tables_at, tables_of, ArePlaced}
-use Rattle.cli_metadata.specs.Laws.{AreConsecutive}
+use Rattle.cli_metadata.specs.Layout.{are_tables, versioned_at, prefix_at, counts_at, table_at, tables_at, tables_of}
+use Rattle.cli_metadata.specs.Standing.{ArePlaced}
+use Rattle.cli_metadata.specs.Standing.{AreConsecutive}
 use Rattle.cli_metadata.specs.Standing.{IsNumber, IsRowCount, AreTables, tables_below, rows_by_number}
 use Rattle.cli_metadata.proofs.Places.{ok_is, bind_ok}
 use Rattle.cli_metadata.proofs.Steps.{number-goes, behind-goes, holds-goes, holds-true, number-is, behind-is, number-there}
@@ -103,6 +104,7 @@ pub record Fields (tables : List (List Column)) (bytes : List ℕ) (at sizes val
   pub major : IsNumber 1 bytes (at + 4) 2
   pub minor : IsNumber 1 bytes (at + 5) 0
   pub heap_sizes : IsNumber 1 bytes (at + 6) sizes
+  pub known_sizes : sizes < 8
   pub bits : IsNumber 8 bytes (at + 8) valid
   pub prefix : at + 24 ≤ length bytes
   pub known : are_tables valid tables ≡ true
@@ -132,13 +134,15 @@ fields-stand tables bytes at x e =
     let v = bind_ok (versioned_at bytes at) _ x e in
     let w = version-stands bytes at v.0 v.1 in
     let a = number-goes BadHeader 1 bytes (at + 6) _ x v.2 in
-    let b = number-goes BadHeader 1 bytes (at + 7) _ x a.1 in
+    let s = holds-goes BadHeader (nat_lt (little_number 1 (drop (at + 6) bytes)) 8) (at + 6) _ x a.1 in
+    let few = s.0 in
+    let b = number-goes BadHeader 1 bytes (at + 7) _ x s.1 in
     let c = number-goes BadHeader 8 bytes (at + 8) _ x b.1 in
     let d = number-goes BadHeader 8 bytes (at + 16) _ x c.1 in
     let k = holds-goes UnknownTable (are_tables (little_number 8 (drop (at + 8) bytes)) tables) (at + 8) _ x d.1 in
     let end = d.0.whole in
     let made : Prefix = record { sizes = little_number 1 (drop (at + 6) bytes); valid = little_number 8 (drop (at + 8) bytes) } in
-    let fields : Fields tables bytes at made.sizes made.valid = record { major = w.0; minor = w.1; heap_sizes = a.0; bits = c.0; prefix = omega arith; known = k.0 } in
+    let fields : Fields tables bytes at made.sizes made.valid = record { major = w.0; minor = w.1; heap_sizes = a.0; known_sizes = grind arith; bits = c.0; prefix = omega arith; known = k.0 } in
     subst (λ (y : Prefix). Fields tables bytes at y.sizes y.valid) (ok_is made x k.1) fields
 
 pub fields-read : (tables : List (List Column)) (bytes : List ℕ) (at sizes valid : ℕ) → Fields tables bytes at sizes valid → prefix_at tables bytes at ≡ Ok (record { sizes = sizes; valid = valid })
@@ -148,10 +152,12 @@ fields-read tables bytes at sizes valid w =
     let known = w.known in
     let v = version-read bytes at w.major w.minor in
     let a = number-is BadHeader 1 bytes (at + 6) sizes w.heap_sizes in
+    let low = w.known_sizes in
+    let few : nat_lt sizes 8 ≡ true = grind arith in
     let b = number-is BadHeader 1 bytes (at + 7) (little_number 1 (drop (at + 7) bytes)) (number-there 1 bytes (at + 7) (omega arith)) in
     let c = number-is BadHeader 8 bytes (at + 8) valid w.bits in
     let d = number-is BadHeader 8 bytes (at + 16) (little_number 8 (drop (at + 16) bytes)) (number-there 8 bytes (at + 16) (omega arith)) in
-    rw (v, a, b, c, d, known) refl
+    rw (v, a, few, b, c, d, known) refl
 
 -- ---- the stream of tables
 
@@ -171,6 +177,7 @@ layout-stands tables bytes at x long e =
       major = f.major;
       minor = f.minor;
       heap_sizes = f.heap_sizes;
+      known_sizes = f.known_sizes;
       bits = f.bits;
       prefix = f.prefix;
       known = known-stands tables a.0.valid f.known;
@@ -190,7 +197,7 @@ layout-read tables bytes at x long w =
     let same : length (widths_by_number x) ≡ length (map (map (width_of w.sizes (rows_by_number x))) tables) = ap length w.widths in
     let many : length (rows_by_number x) ≡ length tables = omega arith in
     let all : length (rows_by_number x) ≡ 45 = omega arith in
-    let f : Fields tables bytes at w.sizes w.valid = record { major = w.major; minor = w.minor; heap_sizes = w.heap_sizes; bits = w.bits; prefix = w.prefix; known = known-read tables w.valid w.known } in
+    let f : Fields tables bytes at w.sizes w.valid = record { major = w.major; minor = w.minor; heap_sizes = w.heap_sizes; known_sizes = w.known_sizes; bits = w.bits; prefix = w.prefix; known = known-read tables w.valid w.known } in
     let a = fields-read tables bytes at w.sizes w.valid f in
     let c = counts-read (rows_by_number x) w.valid bytes (at + 24) (λ k lt. w.rows k (omega arith)) in
     let b : counts_at 45 w.valid bytes (at + 24) ≡ Ok (rows_by_number x, at + 24 + 4 * tables_below w.valid 45)

@@ -1,7 +1,7 @@
 -- The tables and coded indices are those of the standard, as the checker computes.
 use Rattle.std.proofs.Common.{refl}
-use Rattle.cli_metadata.specs.declared.tables.Coded.TheVariants.{TypeDefOrRef, HasConstant, HasCustomAttribute, HasFieldMarshal, HasDeclSecurity, MemberRefParent, HasSemantics, MethodDefOrRef, MemberForwarded, Implementation, CustomAttributeType, ResolutionScope, TypeOrMethodDef}
-use Rattle.cli_metadata.specs.Standard.{TablesAreTheStandards, CodedAreTheStandards}
+use Rattle.cli_metadata.specs.declared.coded_index.Coded.TheVariants.{TypeDefOrRef, HasConstant, HasCustomAttribute, HasFieldMarshal, HasDeclSecurity, MemberRefParent, HasSemantics, MethodDefOrRef, MemberForwarded, Implementation, CustomAttributeType, ResolutionScope, TypeOrMethodDef}
+use Rattle.cli_metadata.specs.Laws.{TablesAreTheStandards, CodedAreTheStandards}
 
 pub tables_are : TablesAreTheStandards
 tables_are = refl

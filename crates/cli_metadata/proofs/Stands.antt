@@ -6,8 +6,10 @@ use Rattle.cli_metadata.specs.declared.root.Streams.{Streams}
 use Rattle.cli_metadata.specs.declared.layout.Placed.{Placed}
 use Rattle.cli_metadata.specs.Root.{streams_of}
 use Rattle.cli_metadata.specs.Layout.{tables_of}
-use Rattle.cli_metadata.specs.Metadata.{Contents, up_to_tables, metadata_with}
-use Rattle.cli_metadata.specs.Standing.{AreTables, IsStanding, ReadIsStanding, StandingIsRead}
+use Rattle.cli_metadata.specs.Metadata.{Contents, up_to_tables}
+use Rattle.cli_metadata.specs.Read.{metadata_with}
+use Rattle.cli_metadata.specs.Standing.{AreTables, IsStanding}
+use Rattle.cli_metadata.specs.Read.{ReadIsStanding, StandingIsRead}
 use Rattle.cli_metadata.proofs.Places.{ok_is, bind_ok}
 use Rattle.cli_metadata.proofs.Whole.{contents, read-is}
 use Rattle.cli_metadata.proofs.Inside.{streams-stand, streams-read}

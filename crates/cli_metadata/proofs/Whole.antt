@@ -5,7 +5,8 @@ use Rattle.cli_metadata.specs.declared.root.Streams.{Streams}
 use Rattle.cli_metadata.specs.declared.layout.Placed.{Placed}
 use Rattle.cli_metadata.specs.Root.{streams_of}
 use Rattle.cli_metadata.specs.Layout.{tables_of}
-use Rattle.cli_metadata.specs.Metadata.{Contents, heap_of, up_to_tables, metadata_with}
+use Rattle.cli_metadata.specs.Metadata.{Contents, heap_of, up_to_tables}
+use Rattle.cli_metadata.specs.Read.{metadata_with}
 
 abbrev pub contents : List ℕ → Streams → List Placed → Contents
 contents bytes s placed = record {

@@ -1,24 +1,38 @@
--- What follows from the definitions, in ranges of bytes.
-use Rattle.std.specs.Prelude.{◌≡◌, ◌≤◌, ℕ, ◌+◌, ◌*◌, List, [], ◌∷◌, length, take, Ok}
-use Rattle.cli_metadata.specs.declared.layout.Placed.{Placed}
+-- What follows from the definitions.
+use Rattle.std.specs.Prelude.{◌≡◌, ◌≤◌, ℕ, ◌+◌, List, length}
+use Rattle.cli_metadata.specs.declared.fault.MetaFault.{MetaFault}
+use Rattle.cli_metadata.specs.declared.tables.Table.{Table}
+use Rattle.cli_metadata.specs.declared.tables.TheConstants.{TABLES}
+use Rattle.cli_metadata.specs.declared.coded_index.Coded.{Coded as Kind}
+use Rattle.cli_metadata.specs.Tables.{targets_of}
+use Rattle.cli_metadata.specs.Standard.{tables_by_number, standard_targets}
 use Rattle.cli_metadata.specs.Widths.{row_width}
-use Rattle.cli_metadata.specs.Metadata.{Contents, metadata_of, placed_of, rows_of, row_start}
+use Rattle.cli_metadata.specs.Metadata.{Contents, placed_of, rows_of, row_start}
+use Rattle.cli_metadata.specs.Standing.{IsStanding}
+use Rattle.cli_metadata.specs.Wrong.{IsWrong}
 
--- the tables stand from a place on, each directly behind the one before it
-abbrev pub AreConsecutive : ℕ → List Placed → Type 0
-AreConsecutive at [] = Unit {0}
-AreConsecutive at (p ∷ placed) = (p.start ≡ at) × AreConsecutive (at + p.rows * row_width p.widths) placed
+-- the tables of the crate are those of the standard, by number
+abbrev pub TablesAreTheStandards : Type 0
+TablesAreTheStandards = TABLES ≡ tables_by_number
 
--- the tables of metadata stand one behind the other
-abbrev pub TablesAreConsecutive : Type 0
-TablesAreConsecutive = (bytes : List ℕ) (m : Contents) → metadata_of bytes ≡ Ok m → (at : ℕ) × AreConsecutive at m.tables
+-- the coded indices of the crate are those of the standard
+abbrev pub CodedAreTheStandards : Type 0
+CodedAreTheStandards = (kind : Kind) → targets_of kind ≡ standard_targets kind
 
--- each row of metadata stands whole in the stream of tables
+-- bytes are metadata with one content
+abbrev pub HasOneContent : Type 0
+HasOneContent = (bytes : List ℕ) (m n : Contents) → IsStanding bytes m → IsStanding bytes n → m ≡ n
+
+-- nothing is wrong with metadata
+abbrev pub HasNoFault : Type 0
+HasNoFault = (bytes : List ℕ) (m : Contents) (fault : MetaFault) → IsStanding bytes m → IsWrong bytes fault.place fault.cause → ⊥
+
+-- what is no metadata has one fault
+abbrev pub HasOneFault : Type 0
+HasOneFault = (bytes : List ℕ) (fault other : MetaFault) → IsWrong bytes fault.place fault.cause → IsWrong bytes other.place other.cause → fault ≡ other
+
+-- each row of metadata stands whole in the bytes up to the end of the stream of tables
 abbrev pub RowsAreWithin : Type 0
 RowsAreWithin =
-    (bytes : List ℕ) (m : Contents) (table n : ℕ) → metadata_of bytes ≡ Ok m → 1 ≤ n → n ≤ rows_of m table
+    (bytes : List ℕ) (m : Contents) (table : Table) (n : ℕ) → IsStanding bytes m → 1 ≤ n → n ≤ rows_of m table
     → row_start (placed_of m table) n + row_width (placed_of m table).widths ≤ length m.stream
-
--- the stream of tables is seen with all that stands before it, so that its places count from the root's first byte
-abbrev pub PlacesCountFromRoot : Type 0
-PlacesCountFromRoot = (bytes : List ℕ) (m : Contents) → metadata_of bytes ≡ Ok m → (n : ℕ) × (m.stream ≡ take n bytes)

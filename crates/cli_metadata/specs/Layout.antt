@@ -1,24 +1,16 @@
--- The stream of tables: its header, and where the tables stand in it (ECMA-335 II.24.2.6). Places count from the root's
+-- The stream of tables, as it is read: its header, and where the tables stand in it. Places count from the root's
 -- first byte, and the bytes are those up to the end of the stream.
-use Rattle.std.specs.Prelude.{◌≤◌, ℕ, zero, suc, ◌+◌, ◌*◌, ◌/◌, ◌%◌, List, [], ◌∷◌, Bool, true, false, Result, Ok, ◌==◌, ◌&&◌, ◌||◌, if◌then◌else◌, slice_index, map}
+use Rattle.std.specs.Prelude.{ℕ, zero, suc, ◌+◌, ◌*◌, ◌/◌, ◌%◌, List, [], ◌∷◌, Bool, Result, Ok, nat_lt, ◌==◌, ◌&&◌, ◌||◌, if◌then◌else◌, slice_index, map}
 use Rattle.cli_metadata.specs.declared.fault.MetaFault.{MetaFault}
 use Rattle.cli_metadata.specs.declared.fault.MetaCause.TheVariants.{BadHeader, UnknownTable, Truncated}
 use Rattle.cli_metadata.specs.declared.tables.Column.{Column}
-use Rattle.cli_metadata.specs.declared.tables.Column.TheVariants as columns
 use Rattle.cli_metadata.specs.declared.widths.Width.{Width}
 use Rattle.cli_metadata.specs.declared.layout.Prefix.{Prefix}
 use Rattle.cli_metadata.specs.declared.layout.Placed.{Placed}
 use Rattle.cli_metadata.specs.Reading.{◌>>=◌, behind, number_at, holds}
+use Rattle.cli_metadata.specs.Numbers.{table_numbers}
 use Rattle.cli_metadata.specs.Widths.{width_of, row_width}
-
--- a table that has a column
-abbrev pub is_column : Column → Bool
-is_column columns.Absent = false
-is_column _ = true
-
-abbrev pub is_table : List Column → Bool
-is_table [] = false
-is_table (c ∷ cs) = is_column c
+use Rattle.cli_metadata.specs.Standing.{is_table}
 
 -- each bit that is set is the bit of a table, from the lowest bit and the first table on
 abbrev pub are_tables : ℕ → List (List Column) → Bool
@@ -26,7 +18,8 @@ are_tables valid [] = valid == 0
 are_tables valid (t ∷ tables) = (valid % 2 == 0 || is_table t) && are_tables (valid / 2) tables
 
 -- The fields before the row counts: a reserved number, the major and the minor version, HeapSizes, a reserved byte, and
--- which tables are there and sorted. No table is there whose number no table has.
+-- which tables are there and sorted. No bit of HeapSizes is set but the lowest three, and no table is there whose number
+-- no table has.
 unfoldable pub versioned_at : List ℕ → ℕ → Result ℕ MetaFault
 versioned_at bytes at = do
   reserved ← number_at BadHeader 4 bytes at
@@ -39,6 +32,7 @@ unfoldable pub prefix_at : List (List Column) → List ℕ → ℕ → Result Pr
 prefix_at tables bytes at = do
   versioned ← versioned_at bytes at
   sizes ← number_at BadHeader 1 bytes (at + 6)
+  known_sizes ← holds (nat_lt sizes 8) BadHeader (at + 6)
   reserved ← number_at BadHeader 1 bytes (at + 7)
   valid ← number_at BadHeader 8 bytes (at + 8)
   sorted ← number_at BadHeader 8 bytes (at + 16)
@@ -76,10 +70,5 @@ tables_at sizes counts (columns ∷ tables) k bytes at = do
 unfoldable pub tables_of : List (List Column) → List ℕ → ℕ → Result (List Placed) MetaFault
 tables_of tables bytes at = do
   prefix ← prefix_at tables bytes at
-  counts ← counts_at 45 prefix.valid bytes (at + 24)
+  counts ← counts_at table_numbers prefix.valid bytes (at + 24)
   tables_at prefix.sizes counts.0 tables 0 bytes counts.1
-
--- each row of these tables stands whole in so many bytes
-abbrev pub ArePlaced : ℕ → List Placed → Type 0
-ArePlaced len [] = Unit {0}
-ArePlaced len (p ∷ placed) = (p.start + p.rows * row_width p.widths ≤ len) × ArePlaced len placed

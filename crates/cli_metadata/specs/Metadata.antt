@@ -1,5 +1,5 @@
 -- Metadata: its heaps and its rows (ECMA-335 II.22, II.24).
-use Rattle.std.specs.Prelude.{◌≡◌, ◌≤◌, ◌<◌, ◌⊎◌, ℕ, ◌+◌, ◌-◌, ◌*◌, ◌/◌, ◌%◌, ◌^◌, List, [], ◌∷◌, ◌++◌, length, take, drop, Option, None, Some, Result, Ok, nat_lt, ◌==◌, if◌then◌else◌, slice_index_or, position, IsUtf8}
+use Rattle.std.specs.Prelude.{◌≡◌, ◌≤◌, ◌<◌, ◌⊎◌, ℕ, ◌+◌, ◌-◌, ◌*◌, ◌/◌, ◌%◌, ◌^◌, List, [], ◌∷◌, ◌++◌, length, take, drop, Option, None, Some, nat_lt, ◌==◌, if◌then◌else◌, slice_index_or, position, IsUtf8}
 use Rattle.std.specs.Option.{option_map}
 use Rattle.byteorder.specs.Endian.{little_number}
 use Rattle.dc_base.specs.declared.names.Token.{Token}
@@ -7,21 +7,16 @@ use Rattle.dc_base.specs.Spelling.{BeginsWithNumber, BeginsWithNone}
 use Rattle.cli_metadata.specs.declared.fault.MetaFault.{MetaFault}
 use Rattle.cli_metadata.specs.declared.fault.MetaCause.{MetaCause}
 use Rattle.cli_metadata.specs.declared.fault.MetaCause.TheVariants.{BadIndex, BadText, BadBlob}
-use Rattle.cli_metadata.specs.declared.tables.Coded.{Coded}
-use Rattle.cli_metadata.specs.declared.tables.Column.{Column}
-use Rattle.cli_metadata.specs.declared.tables.Targets.{Targets}
-use Rattle.cli_metadata.specs.declared.tables.TheConstants.{TABLES}
+use Rattle.cli_metadata.specs.declared.coded_index.Coded.{Coded}
+use Rattle.cli_metadata.specs.declared.tables.Table.{Table}
+use Rattle.cli_metadata.specs.declared.coded_index.Targets.{Targets}
 use Rattle.cli_metadata.specs.declared.root.Stream.{Stream}
 use Rattle.cli_metadata.specs.declared.root.Streams.{Streams}
 use Rattle.cli_metadata.specs.declared.widths.Width.{Width}
 use Rattle.cli_metadata.specs.declared.layout.Placed.{Placed}
-use Rattle.cli_metadata.specs.declared.layout.TheConstants.{UNPLACED}
-use Rattle.cli_metadata.specs.declared.row.Row.{Row}
-use Rattle.cli_metadata.specs.Tables.{targets_of}
-use Rattle.cli_metadata.specs.Reading.{◌>>=◌}
-use Rattle.cli_metadata.specs.Root.{streams_of}
+use Rattle.cli_metadata.specs.Numbers.{number_of}
+use Rattle.cli_metadata.specs.Standard.{standard_targets}
 use Rattle.cli_metadata.specs.Widths.{bytes_in, row_width}
-use Rattle.cli_metadata.specs.Layout.{tables_of}
 
 -- What metadata holds: its heaps, the bytes up to the end of the stream of tables, and where in them each table stands,
 -- by the table's number.
@@ -41,30 +36,18 @@ heap_of bytes (Some s) = take s.size (drop s.from bytes)
 abbrev pub up_to_tables : List ℕ → Streams → List ℕ
 up_to_tables bytes streams = take (streams.tables.from + streams.tables.size) bytes
 
--- the metadata that these bytes are, or what is wrong with them first, where these are the tables and their columns
-unfoldable pub metadata_with : List (List Column) → List ℕ → Result Contents MetaFault
-metadata_with tables bytes = do
-  streams ← streams_of bytes
-  placed ← tables_of tables (up_to_tables bytes streams) streams.tables.from
-  Ok (record {
-    strings = heap_of bytes streams.strings;
-    user_strings = heap_of bytes streams.user_strings;
-    blobs = heap_of bytes streams.blobs;
-    stream = up_to_tables bytes streams;
-    tables = placed;
-  })
-
--- the metadata that these bytes are, or what is wrong with them first
-abbrev pub metadata_of : List ℕ → Result Contents MetaFault
-metadata_of bytes = metadata_with TABLES bytes
-
 -- ---- rows
 
--- where a table stands; a number that no table has has no rows
-abbrev pub placed_of : Contents → ℕ → Placed
-placed_of m table = slice_index_or m.tables table UNPLACED
+-- where a table without rows stands
+abbrev pub nowhere : Placed
+nowhere = record { rows = 0; start = 0; widths = [] }
 
-abbrev pub rows_of : Contents → ℕ → ℕ
+-- where a table stands
+abbrev pub placed_of : Contents → Table → Placed
+placed_of m table = slice_index_or m.tables (number_of table) nowhere
+
+-- how many rows a table has
+abbrev pub rows_of : Contents → Table → ℕ
 rows_of m table = (placed_of m table).rows
 
 -- the numbers in cells of these widths, each directly behind the one before it, the least byte first
@@ -76,23 +59,23 @@ cells_of (w ∷ widths) bytes = little_number (bytes_in w) bytes ∷ cells_of wi
 abbrev pub row_start : Placed → ℕ → ℕ
 row_start p n = p.start + (n - 1) * row_width p.widths
 
--- row n of a table
-abbrev pub row_of : Contents → ℕ → ℕ → Row
+-- the numbers in the cells of row n of a table, with 0 behind the last
+abbrev pub row_of : Contents → Table → ℕ → List ℕ
 row_of m table n =
     let p = placed_of m table in
-    record { table = table; cells = cells_of p.widths (drop (row_start p n) m.stream) }
+    cells_of p.widths (drop (row_start p n) m.stream)
 
 -- the token of a row of a table, where there is such a table and the row fits three bytes
-abbrev pub token_of : Option ℕ → ℕ → Option Token
+abbrev pub token_of : Option Table → ℕ → Option Token
 token_of None row = None
-token_of (Some table) row = if nat_lt 0xFFFFFF row then None else Some (record { 0 = table * 2 ^ 24 + row })
+token_of (Some table) row = if nat_lt 0xFFFFFF row then None else Some (record { 0 = number_of table * 2 ^ 24 + row })
 
 -- the token that a coded index means: the tag of its table is in the low bits, and the row above them (II.24.2.6)
 abbrev pub coded_with : Targets → ℕ → Option Token
 coded_with targets cell = token_of (slice_index_or targets.tables (cell % 2 ^ targets.bits) None) (cell / 2 ^ targets.bits)
 
 abbrev pub coded_of : Coded → ℕ → Option Token
-coded_of kind cell = coded_with (targets_of kind) cell
+coded_of kind cell = coded_with (standard_targets kind) cell
 
 -- ---- heaps
 

@@ -1,5 +1,5 @@
--- The metadata root and its streams (ECMA-335 II.24.2.1, II.24.2.2).
-use Rattle.std.specs.Prelude.{◌≤◌, ℕ, zero, suc, ◌+◌, ◌*◌, ◌/◌, List, [], ◌∷◌, length, take, drop, Option, None, Some, Result, Ok, Err, nat_lt, ◌==◌, if◌then◌else◌, find, position, codes, min}
+-- The metadata root and its streams, as they are read.
+use Rattle.std.specs.Prelude.{ℕ, zero, suc, ◌+◌, List, [], ◌∷◌, length, take, drop, Option, None, Some, Result, Ok, Err, nat_lt, ◌==◌, if◌then◌else◌, find, position, codes, min}
 use Rattle.std.specs.Str.{bytes_eq}
 use Rattle.std.specs.Option.{option_map}
 use Rattle.cli_metadata.specs.declared.fault.MetaFault.{MetaFault}
@@ -7,6 +7,7 @@ use Rattle.cli_metadata.specs.declared.fault.MetaCause.TheVariants.{BadRoot, Bad
 use Rattle.cli_metadata.specs.declared.root.Stream.{Stream}
 use Rattle.cli_metadata.specs.declared.root.Streams.{Streams}
 use Rattle.cli_metadata.specs.declared.root.Found.{Found}
+use Rattle.cli_metadata.specs.Standing.{Header, padded, IsWithin}
 use Rattle.cli_metadata.specs.Reading.{◌>>=◌, fault_at, behind, number_at, holds}
 
 -- where the stream headers begin, and how many there are
@@ -28,16 +29,6 @@ root_of bytes = do
   flag ← number_at BadRoot 2 bytes flags
   count ← number_at BadRoot 2 bytes (flags + 2)
   Ok (record { at = flags + 4; count = count })
-
--- a stream header: the stream, its name, and the place behind the header
-pub record Header : Type 0 where
-  pub stream : Stream
-  pub name : List ℕ
-  pub next : ℕ
-
--- the bytes of a name of `n` bytes with the zero behind it and what fills it up to a multiple of four
-abbrev pub padded : ℕ → ℕ
-padded n = (n / 4 + 1) * 4
 
 -- the name at a place that has its zero behind this many bytes
 abbrev pub name_of : List ℕ → ℕ → Option ℕ → Result (List ℕ) MetaFault
@@ -124,18 +115,6 @@ streams_of bytes = do
   root ← root_of bytes
   headers ← headers_at root.count bytes root.at
   streams_in bytes headers.1 (found_in (Ok headers))
-
--- a stream stands whole in so many bytes
-abbrev pub IsWithin : ℕ → Option Stream → Type 0
-IsWithin len None = Unit {0}
-IsWithin len (Some s) = s.from + s.size ≤ len
-
--- the streams that are read stand whole in so many bytes
-pub record AreWithin (len : ℕ) (streams : Streams) : Type 0 where
-  pub tables : streams.tables.from + streams.tables.size ≤ len
-  pub strings : IsWithin len streams.strings
-  pub user_strings : IsWithin len streams.user_strings
-  pub blobs : IsWithin len streams.blobs
 
 -- all these streams do
 pub record AreWithinAll (len : ℕ) (found : Found) : Type 0 where

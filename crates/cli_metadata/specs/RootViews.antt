@@ -1,7 +1,8 @@
 -- Parts of the root, as the definitions have them.
 use Rattle.cli_metadata.specs.declared.root.Root.{Root as RootRead}
 use Rattle.cli_metadata.specs.declared.root.Header.{Header as HeaderRead}
-use Rattle.cli_metadata.specs.Root.{Root, Header}
+use Rattle.cli_metadata.specs.Root.{Root}
+use Rattle.cli_metadata.specs.Standing.{Header}
 
 abbrev pub root_as : RootRead → Root
 root_as r = record { at = r.at; count = r.count }

@@ -1,18 +1,15 @@
 -- Metadata in the standard's words: which numbers and names stand at which places of its bytes (ECMA-335 II.24.2.1,
 -- II.24.2.2, II.24.2.6). Nothing here reads, and no fact comes before another. Places count from the root's first byte.
-use Rattle.std.specs.Prelude.{◌≡◌, ◌≢◌, ◌≤◌, ◌<◌, ℕ, zero, suc, ◌+◌, ◌*◌, ◌/◌, ◌%◌, ◌^◌, List, [], ◌∷◌, ◌++◌, length, drop, Option, None, Some, Ok, IsTrue, All, slice_index, slice_index_or, map, codes}
-use Rattle.std.specs.List.{range_with_len}
+use Rattle.std.specs.Prelude.{◌≡◌, ◌≢◌, ◌≤◌, ◌<◌, ℕ, zero, suc, ◌+◌, ◌*◌, ◌/◌, ◌%◌, ◌^◌, List, [], ◌∷◌, ◌++◌, length, drop, Bool, true, false, Option, None, Some, IsTrue, All, slice_index, slice_index_or, map, codes}
 use Rattle.byteorder.specs.Endian.{little_number}
 use Rattle.cli_metadata.specs.declared.tables.Column.{Column}
+use Rattle.cli_metadata.specs.declared.tables.Column.TheVariants as columns
 use Rattle.cli_metadata.specs.declared.root.Stream.{Stream}
 use Rattle.cli_metadata.specs.declared.root.Streams.{Streams}
 use Rattle.cli_metadata.specs.declared.layout.Placed.{Placed}
-use Rattle.cli_metadata.specs.Root.{Header, padded, IsWithin, AreWithin}
-use Rattle.cli_metadata.specs.Widths.{width_of}
-use Rattle.cli_metadata.specs.Layout.{is_table, ArePlaced}
-use Rattle.cli_metadata.specs.Standard.{standard_columns}
-use Rattle.cli_metadata.specs.Laws.{AreConsecutive}
-use Rattle.cli_metadata.specs.Metadata.{Contents, heap_of, up_to_tables, metadata_of}
+use Rattle.cli_metadata.specs.Widths.{width_of, row_width}
+use Rattle.cli_metadata.specs.Standard.{tables_by_number}
+use Rattle.cli_metadata.specs.Metadata.{Contents, heap_of, up_to_tables}
 
 -- a number of `n` bytes stands whole at a place, the least byte first
 pub record IsNumber (n : ℕ) (bytes : List ℕ) (place number : ℕ) : Type 0 where
@@ -32,6 +29,10 @@ pub record IsRoot (bytes : List ℕ) (count at : ℕ) : Type 0 where
 
 -- ---- the stream headers (II.24.2.2)
 
+-- the bytes of a name of `n` bytes with the zero behind it and what fills it up to a multiple of four
+abbrev pub padded : ℕ → ℕ
+padded n = (n / 4 + 1) * 4
+
 -- a name at a place: 32 bytes at most, none of them zero, with a zero behind them and filled up to a multiple of four
 pub record IsName (bytes : List ℕ) (place : ℕ) (name : List ℕ) : Type 0 where
   pub others : List ℕ
@@ -40,7 +41,13 @@ pub record IsName (bytes : List ℕ) (place : ℕ) (name : List ℕ) : Type 0 wh
   pub short : length name ≤ 32
   pub whole : place + padded (length name) ≤ length bytes
 
--- a header: where the stream begins, its size, and its name; `next` is the place behind it
+-- a stream header: its stream, its name, and the place behind it
+pub record Header : Type 0 where
+  pub stream : Stream
+  pub name : List ℕ
+  pub next : ℕ
+
+-- what stands in a header: where the stream begins, its size, and its name
 pub record IsHeader (bytes : List ℕ) (h : Header) : Type 0 where
   pub from : IsNumber 4 bytes h.stream.place h.stream.from
   pub size : IsNumber 4 bytes (h.stream.place + 4) h.stream.size
@@ -66,6 +73,18 @@ pub record IsFirst (name : List ℕ) (headers : List Header) (stream : Stream) :
 abbrev pub IsFirstNamed : List ℕ → List Header → Option Stream → Type 0
 IsFirstNamed name headers None = All (λ h. h.name ≢ name) headers
 IsFirstNamed name headers (Some stream) = IsFirst name headers stream
+
+-- a stream stands whole in so many bytes
+abbrev pub IsWithin : ℕ → Option Stream → Type 0
+IsWithin len None = Unit {0}
+IsWithin len (Some s) = s.from + s.size ≤ len
+
+-- the streams that are read stand whole in so many bytes
+pub record AreWithin (len : ℕ) (streams : Streams) : Type 0 where
+  pub tables : streams.tables.from + streams.tables.size ≤ len
+  pub strings : IsWithin len streams.strings
+  pub user_strings : IsWithin len streams.user_strings
+  pub blobs : IsWithin len streams.blobs
 
 -- The streams of metadata: as many headers stand as the root counts, and of each name that is read the first one's stream
 -- stands whole within the metadata; there is one of tables.
@@ -106,8 +125,27 @@ pub record IsRowCount (bytes : List ℕ) (counts valid k rows : ℕ) : Type 0 wh
 abbrev pub rows_by_number : List Placed → List ℕ
 rows_by_number placed = map (λ p. p.rows) placed
 
--- The stream of tables at a place, in the bytes up to its end: four reserved bytes, with any value; version 2.0; HeapSizes;
--- a reserved byte, with any value; Valid, in which each bit that is set is that of a table with columns; Sorted, with any
+-- a table that has a column
+abbrev pub is_column : Column → Bool
+is_column columns.Absent = false
+is_column _ = true
+
+abbrev pub is_table : List Column → Bool
+is_table [] = false
+is_table (c ∷ cs) = is_column c
+
+-- the tables stand from a place on, each directly behind the one before it
+abbrev pub AreConsecutive : ℕ → List Placed → Type 0
+AreConsecutive at [] = Unit {0}
+AreConsecutive at (p ∷ placed) = (p.start ≡ at) × AreConsecutive (at + p.rows * row_width p.widths) placed
+
+-- each row of these tables stands whole in so many bytes
+abbrev pub ArePlaced : ℕ → List Placed → Type 0
+ArePlaced len [] = Unit {0}
+ArePlaced len (p ∷ placed) = (p.start + p.rows * row_width p.widths ≤ len) × ArePlaced len placed
+
+-- The stream of tables at a place, in the bytes up to its end: four reserved bytes, with any value; version 2.0; HeapSizes,
+-- in which no bit is set but 1, 2 and 4; a reserved byte, with any value; Valid, in which each bit that is set is that of a table with columns; Sorted, with any
 -- value; the row counts, each directly behind the one before it; the tables, which stand whole, also one behind the other.
 -- How wide a table's cells are is told by its columns, HeapSizes and the row counts.
 pub record AreTables (tables : List (List Column)) (bytes : List ℕ) (at : ℕ) (placed : List Placed) : Type 0 where
@@ -116,6 +154,7 @@ pub record AreTables (tables : List (List Column)) (bytes : List ℕ) (at : ℕ)
   pub major : IsNumber 1 bytes (at + 4) 2
   pub minor : IsNumber 1 bytes (at + 5) 0
   pub heap_sizes : IsNumber 1 bytes (at + 6) sizes
+  pub known_sizes : sizes < 8
   pub bits : IsNumber 8 bytes (at + 8) valid
   pub prefix : at + 24 ≤ length bytes
   pub known : (k : ℕ) → bit valid k ≡ 1 → IsTrue (is_table (slice_index_or tables k []))
@@ -126,10 +165,6 @@ pub record AreTables (tables : List (List Column)) (bytes : List ℕ) (at : ℕ)
 
 -- ---- metadata
 
--- the tables with their columns, by number (II.22)
-abbrev pub tables_by_number : List (List Column)
-tables_by_number = map standard_columns (range_with_len 0 45)
-
 -- these bytes are metadata with these contents
 pub record IsStanding (bytes : List ℕ) (m : Contents) : Type 0 where
   pub streams : Streams
@@ -139,11 +174,3 @@ pub record IsStanding (bytes : List ℕ) (m : Contents) : Type 0 where
   pub blobs : m.blobs ≡ heap_of bytes streams.blobs
   pub stream : m.stream ≡ up_to_tables bytes streams
   pub tables : AreTables tables_by_number m.stream streams.tables.from m.tables
-
--- what is read of metadata is what stands in its bytes
-abbrev pub ReadIsStanding : Type 0
-ReadIsStanding = (bytes : List ℕ) (m : Contents) → metadata_of bytes ≡ Ok m → IsStanding bytes m
-
--- what stands in the bytes of metadata is what is read
-abbrev pub StandingIsRead : Type 0
-StandingIsRead = (bytes : List ℕ) (m : Contents) → IsStanding bytes m → metadata_of bytes ≡ Ok m

@@ -1,8 +1,8 @@
 -- The tables and the coded indices, as the crate's constants have them.
-use Rattle.cli_metadata.specs.declared.tables.Coded.{Coded}
-use Rattle.cli_metadata.specs.declared.tables.Coded.TheVariants.{TypeDefOrRef, HasConstant, HasCustomAttribute, HasFieldMarshal, HasDeclSecurity, MemberRefParent, HasSemantics, MethodDefOrRef, MemberForwarded, Implementation, CustomAttributeType, ResolutionScope, TypeOrMethodDef}
-use Rattle.cli_metadata.specs.declared.tables.Targets.{Targets}
-use Rattle.cli_metadata.specs.declared.tables.TheConstants.{TYPE_DEF_OR_REF, HAS_CONSTANT, HAS_CUSTOM_ATTRIBUTE, HAS_FIELD_MARSHAL, HAS_DECL_SECURITY, MEMBER_REF_PARENT, HAS_SEMANTICS, METHOD_DEF_OR_REF, MEMBER_FORWARDED, IMPLEMENTATION, CUSTOM_ATTRIBUTE_TYPE, RESOLUTION_SCOPE, TYPE_OR_METHOD_DEF}
+use Rattle.cli_metadata.specs.declared.coded_index.Coded.{Coded}
+use Rattle.cli_metadata.specs.declared.coded_index.Coded.TheVariants.{TypeDefOrRef, HasConstant, HasCustomAttribute, HasFieldMarshal, HasDeclSecurity, MemberRefParent, HasSemantics, MethodDefOrRef, MemberForwarded, Implementation, CustomAttributeType, ResolutionScope, TypeOrMethodDef}
+use Rattle.cli_metadata.specs.declared.coded_index.Targets.{Targets}
+use Rattle.cli_metadata.specs.declared.coded_index.TheConstants.{TYPE_DEF_OR_REF, HAS_CONSTANT, HAS_CUSTOM_ATTRIBUTE, HAS_FIELD_MARSHAL, HAS_DECL_SECURITY, MEMBER_REF_PARENT, HAS_SEMANTICS, METHOD_DEF_OR_REF, MEMBER_FORWARDED, IMPLEMENTATION, CUSTOM_ATTRIBUTE_TYPE, RESOLUTION_SCOPE, TYPE_OR_METHOD_DEF}
 
 -- the tables that a coded index may name (ECMA-335 II.24.2.6)
 abbrev pub targets_of : Coded → Targets

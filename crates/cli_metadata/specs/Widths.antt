@@ -1,12 +1,14 @@
 -- How many bytes a cell has (ECMA-335 II.24.2.6).
 use Rattle.std.specs.Prelude.{ℕ, ◌-◌, ◌^◌, List, Bool, true, false, Option, None, Some, nat_lt, ◌==◌, slice_index, bit_and}
 use Rattle.std.specs.List.{list_all, sum_by}
+use Rattle.cli_metadata.specs.declared.tables.Table.{Table}
 use Rattle.cli_metadata.specs.declared.tables.Column.{Column}
-use Rattle.cli_metadata.specs.declared.tables.Column.TheVariants.{Absent, Number1, Number2, Number4, Strings, Guid, Blob, Table, Coded}
-use Rattle.cli_metadata.specs.declared.tables.Targets.{Targets}
+use Rattle.cli_metadata.specs.declared.tables.Column.TheVariants.{Absent, Number1, Number2, Number4, Strings, Guid, Blob, Row, Coded}
+use Rattle.cli_metadata.specs.declared.coded_index.Targets.{Targets}
 use Rattle.cli_metadata.specs.declared.widths.Width.{Width}
 use Rattle.cli_metadata.specs.declared.widths.Width.TheVariants.{Zero, One, Two, Four}
-use Rattle.cli_metadata.specs.Tables.{targets_of}
+use Rattle.cli_metadata.specs.Numbers.{number_of}
+use Rattle.cli_metadata.specs.Standard.{standard_targets}
 
 abbrev pub bytes_in : Width → ℕ
 bytes_in Zero = 0
@@ -23,10 +25,10 @@ index_width false = Four
 abbrev pub heap_width : ℕ → ℕ → Width
 heap_width sizes bit = index_width (bit_and sizes bit == 0)
 
--- a table has fewer rows than this; a number that no table has has none
-abbrev pub has_fewer : List ℕ → ℕ → Option ℕ → Bool
+-- a table has fewer rows than this
+abbrev pub has_fewer : List ℕ → ℕ → Option Table → Bool
 has_fewer counts limit None = true
-has_fewer counts limit (Some table) = nat_lt (slice_index counts table) limit
+has_fewer counts limit (Some table) = nat_lt (slice_index counts (number_of table)) limit
 
 -- each table that a coded index may name has so few rows that two bytes hold the row and the tag
 abbrev pub fits_two : List ℕ → Targets → Bool
@@ -41,8 +43,8 @@ width_of sizes counts Number4 = Four
 width_of sizes counts Strings = heap_width sizes 0x01
 width_of sizes counts Guid = heap_width sizes 0x02
 width_of sizes counts Blob = heap_width sizes 0x04
-width_of sizes counts (Table table) = index_width (has_fewer counts (2 ^ 16) (Some table))
-width_of sizes counts (Coded kind) = index_width (fits_two counts (targets_of kind))
+width_of sizes counts (Row table) = index_width (has_fewer counts (2 ^ 16) (Some table))
+width_of sizes counts (Coded kind) = index_width (fits_two counts (standard_targets kind))
 
 -- the bytes of a row with these cells
 abbrev pub row_width : List Width → ℕ

@@ -1,41 +1,48 @@
 -- What is wrong with bytes that aren't metadata, in the standard's words (ECMA-335 II.24.2.1, II.24.2.2, II.24.2.6): what
 -- should stand next to what stands doesn't. Places count from the root's first byte.
-use Rattle.std.specs.Prelude.{◌≡◌, ◌≤◌, ◌<◌, ◌⊎◌, ℕ, ◌+◌, ◌*◌, List, [], ◌∷◌, ◌++◌, length, Option, None, Some, Err, IsTrue, All, Contains, slice_index, slice_index_or, map, codes, false}
-use Rattle.cli_metadata.specs.declared.fault.MetaFault.{MetaFault}
+use Rattle.std.specs.Prelude.{◌≡◌, ◌≤◌, ◌<◌, ◌⊎◌, ℕ, ◌+◌, ◌*◌, List, [], ◌∷◌, ◌++◌, length, None, IsTrue, All, Contains, slice_index, slice_index_or, map, codes, false}
 use Rattle.cli_metadata.specs.declared.fault.MetaCause.{MetaCause}
 use Rattle.cli_metadata.specs.declared.fault.MetaCause.TheVariants.{BadRoot, BadStream, BadHeader, UnknownTable, Truncated}
 use Rattle.cli_metadata.specs.declared.tables.Column.{Column}
 use Rattle.cli_metadata.specs.declared.root.Stream.{Stream}
 use Rattle.cli_metadata.specs.declared.root.Streams.{Streams}
 use Rattle.cli_metadata.specs.declared.layout.Placed.{Placed}
-use Rattle.cli_metadata.specs.Root.{Header}
+use Rattle.cli_metadata.specs.Standard.{tables_by_number}
 use Rattle.cli_metadata.specs.Widths.{width_of, row_width}
-use Rattle.cli_metadata.specs.Layout.{is_table}
-use Rattle.cli_metadata.specs.Laws.{AreConsecutive}
-use Rattle.cli_metadata.specs.Metadata.{up_to_tables, metadata_of}
-use Rattle.cli_metadata.specs.Standing.{IsNumber, IsRoot, IsName, AreHeaders, IsFirst, IsFirstNamed, AreStreams, bit, tables_below, IsRowCount, rows_by_number, tables_by_number}
+use Rattle.cli_metadata.specs.Metadata.{up_to_tables}
+use Rattle.cli_metadata.specs.Standing.{Header, is_table, AreConsecutive, IsNumber, IsRoot, IsName, AreHeaders, IsFirst, IsFirstNamed, AreStreams, bit, tables_below, IsRowCount, rows_by_number}
 
 -- ---- fields
 
--- a field: its place, its size, and the one value that it may have, if not any will do
+-- the values that a field may have: all, one, or those below a limit
+pub data Values : Type 0 where
+  Every : Values
+  One : ℕ → Values
+  Below : ℕ → Values
+
+-- a field: its place, its size, and the values that it may have
 pub record Field : Type 0 where
   pub place : ℕ
   pub size : ℕ
-  pub value : Option ℕ
+  pub values : Values
 
 abbrev pub field : ℕ → ℕ → Field
-field place size = record { place = place; size = size; value = None }
+field place size = record { place = place; size = size; values = Every }
 
 abbrev pub field_of : ℕ → ℕ → ℕ → Field
-field_of place size value = record { place = place; size = size; value = Some value }
+field_of place size value = record { place = place; size = size; values = One value }
 
-abbrev pub IsRightAs : List ℕ → ℕ → ℕ → Option ℕ → Type 0
-IsRightAs bytes place size None = place + size ≤ length bytes
-IsRightAs bytes place size (Some value) = IsNumber size bytes place value
+abbrev pub field_below : ℕ → ℕ → ℕ → Field
+field_below place size limit = record { place = place; size = size; values = Below limit }
 
--- a field stands whole, with the value that it may have
+abbrev pub IsRightAs : List ℕ → ℕ → ℕ → Values → Type 0
+IsRightAs bytes place size Every = place + size ≤ length bytes
+IsRightAs bytes place size (One value) = IsNumber size bytes place value
+IsRightAs bytes place size (Below limit) = (number : ℕ) × IsNumber size bytes place number × (number < limit)
+
+-- a field stands whole, with a value that it may have
 abbrev pub IsRight : List ℕ → Field → Type 0
-IsRight bytes f = IsRightAs bytes f.place f.size f.value
+IsRight bytes f = IsRightAs bytes f.place f.size f.values
 
 -- the first of these fields that isn't right is the one at a place
 pub record IsFirstWrong (bytes : List ℕ) (fields : List Field) (place : ℕ) : Type 0 where
@@ -121,10 +128,11 @@ pub record IsStreamWrong (bytes : List ℕ) (place : ℕ) : Type 0 where
 
 -- ---- the stream of tables (II.24.2.6)
 
--- its fields before the row counts: reserved, major and minor version, HeapSizes, reserved, Valid, Sorted
+-- Its fields before the row counts: reserved, major and minor version, HeapSizes, in which no bit is set but 1, 2 and 4,
+-- reserved, Valid, Sorted.
 abbrev pub header_fields : ℕ → List Field
 header_fields at =
-    field at 4 ∷ field_of (at + 4) 1 2 ∷ field_of (at + 5) 1 0 ∷ field (at + 6) 1 ∷ field (at + 7) 1 ∷ field (at + 8) 8 ∷ field (at + 16) 8 ∷ []
+    field at 4 ∷ field_of (at + 4) 1 2 ∷ field_of (at + 5) 1 0 ∷ field_below (at + 6) 1 8 ∷ field (at + 7) 1 ∷ field (at + 8) 8 ∷ field (at + 16) 8 ∷ []
 
 -- one of these fields isn't right
 abbrev pub IsHeaderWrong : List ℕ → ℕ → ℕ → Type 0
@@ -191,11 +199,3 @@ IsWrong bytes place BadHeader = InTables bytes (λ stream at. IsHeaderWrong stre
 IsWrong bytes place UnknownTable = InTables bytes (λ stream at. IsTableUnknown tables_by_number stream at place)
 IsWrong bytes place Truncated = InTables bytes (λ stream at. IsCut tables_by_number stream at place)
 IsWrong bytes place _ = ⊥
-
--- a fault that is met is one that these bytes have
-abbrev pub FaultIsWrong : Type 0
-FaultIsWrong = (bytes : List ℕ) (f : MetaFault) → metadata_of bytes ≡ Err f → IsWrong bytes f.place f.cause
-
--- a fault that these bytes have is the one that is met
-abbrev pub WrongIsFault : Type 0
-WrongIsFault = (bytes : List ℕ) (f : MetaFault) → IsWrong bytes f.place f.cause → metadata_of bytes ≡ Err f

@@ -2,14 +2,17 @@
 
 ghost use Rattle.std.specs.Prelude.{◌≡◌, ◌≤◌, ◌<◌, ◌+◌, ◌*◌, ◌^◌, length, IfOk, OnOk};
 ghost use Rattle.cli_metadata.specs.Reading.{Gives};
+ghost use Rattle.cli_metadata.specs.Numbers.{table_numbers};
 ghost use Rattle.cli_metadata.specs.Widths.{row_width};
-ghost use Rattle.cli_metadata.specs.Layout.{is_table, are_tables, versioned_at, prefix_at, count_at, counts_at, table_at, tables_at, tables_of, ArePlaced};
+ghost use Rattle.cli_metadata.specs.Standing.{is_table, ArePlaced};
+ghost use Rattle.cli_metadata.specs.Layout.{are_tables, versioned_at, prefix_at, count_at, counts_at, table_at, tables_at, tables_of};
 
 use crate::reading::{behind, check, u8_at, u32_at, u64_at};
 use crate::widths::{Width, row_width, widths_of};
-use crate::{Column, MetaCause, MetaFault};
+use crate::{Column, MOST_COLUMNS, MetaCause, MetaFault, TABLE_NUMBERS};
 
-// What the fields before the row counts say: HeapSizes, and which tables are there.
+// What the fields before the row counts say: HeapSizes, whose bits 1, 2 and 4 are those of the heaps whose indices have
+// four bytes, and which tables are there.
 #[derive(Clone, Copy, Debug)]
 pub(crate) struct Prefix {
     pub sizes: u8,
@@ -21,18 +24,18 @@ pub(crate) struct Prefix {
 pub(crate) struct Placed {
     pub rows: u32,
     pub start: usize,
-    pub widths: [Width; 9],
+    pub widths: [Width; MOST_COLUMNS],
 }
 
 // A table without rows and columns.
 pub(crate) const UNPLACED: Placed = Placed {
     rows: 0,
     start: 0,
-    widths: [Width::Zero; 9],
+    widths: [Width::Zero; MOST_COLUMNS],
 };
 
 // Whether each bit that is set is the bit of a table.
-fn are_tables(valid: u64, tables: &[[Column; 9]; 45]) -> bool
+fn are_tables(valid: u64, tables: &[[Column; MOST_COLUMNS]; TABLE_NUMBERS]) -> bool
     ensures { result ≡ are_tables valid tables.now }
 {
     let mut bits = valid;
@@ -45,7 +48,7 @@ fn are_tables(valid: u64, tables: &[[Column; 9]; 45]) -> bool
     bits == 0
 }
 
-fn is_table(columns: &[Column; 9]) -> bool
+fn is_table(columns: &[Column; MOST_COLUMNS]) -> bool
     ensures { result ≡ is_table columns.now }
 {
     !matches!(columns[0], Column::Absent)
@@ -69,7 +72,7 @@ fn versioned_at(bytes: &[u8], at: usize) -> Result<usize, MetaFault>
 // The fields before the row counts.
 #[tactic(auto, unfolding(crate::specs::Layout::prefix_at))]
 pub(crate) fn prefix_at(
-    tables: &[[Column; 9]; 45],
+    tables: &[[Column; MOST_COLUMNS]; TABLE_NUMBERS],
     bytes: &[u8],
     at: usize,
 ) -> Result<Prefix, MetaFault>
@@ -80,6 +83,7 @@ pub(crate) fn prefix_at(
 {
     versioned_at(bytes, at)?;
     let sizes = u8_at(bytes, at + 6, MetaCause::BadHeader)?;
+    check(sizes < 8, at + 6, MetaCause::BadHeader)?;
     u8_at(bytes, at + 7, MetaCause::BadHeader)?;
     let valid = u64_at(bytes, at + 8, MetaCause::BadHeader)?;
     u64_at(bytes, at + 16, MetaCause::BadHeader)?;
@@ -106,16 +110,16 @@ pub(crate) fn counts_at(
     valid: u64,
     bytes: &[u8],
     at: usize,
-) -> Result<([u32; 45], usize), MetaFault>
+) -> Result<([u32; TABLE_NUMBERS], usize), MetaFault>
     requires place { at ≤ length bytes.now }
     requires short { length bytes.now < 2 ^ 32 }
-    ensures counts { result ≡ counts_at 45 valid bytes.now at }
+    ensures counts { result ≡ counts_at table_numbers valid bytes.now at }
     ensures whole { IfOk result (λ x. x.1 ≤ length bytes.now) }
 {
-    let mut counts = [0; 45];
+    let mut counts = [0; TABLE_NUMBERS];
     let mut bits = valid;
     let mut at = at;
-    for i in 0..45 {
+    for i in 0..TABLE_NUMBERS {
         let (rows, end) = count_at(bits, bytes, at)?;
         counts[i] = rows;
         bits /= 2;
@@ -127,7 +131,7 @@ pub(crate) fn counts_at(
 // A table that stands at a place, and the place behind it.
 #[tactic(auto, unfolding(crate::specs::Layout::table_at))]
 fn table_at(
-    widths: [Width; 9],
+    widths: [Width; MOST_COLUMNS],
     rows: u32,
     bytes: &[u8],
     at: usize,
@@ -150,19 +154,19 @@ fn table_at(
 // The tables, each directly behind the one before it.
 pub(crate) fn tables_at(
     prefix: Prefix,
-    counts: &[u32; 45],
-    tables: &[[Column; 9]; 45],
+    counts: &[u32; TABLE_NUMBERS],
+    tables: &[[Column; MOST_COLUMNS]; TABLE_NUMBERS],
     bytes: &[u8],
     at: usize,
-) -> Result<[Placed; 45], MetaFault>
+) -> Result<[Placed; TABLE_NUMBERS], MetaFault>
     requires place { at ≤ length bytes.now }
     requires short { length bytes.now < 2 ^ 32 }
     ensures tables { result ≡ tables_at prefix.sizes counts.now tables.now 0 bytes.now at }
     ensures placed { IfOk result (ArePlaced (length bytes.now)) }
 {
-    let mut placed = [UNPLACED; 45];
+    let mut placed = [UNPLACED; TABLE_NUMBERS];
     let mut at = at;
-    for i in 0..45 {
+    for i in 0..TABLE_NUMBERS {
         let widths = widths_of(&tables[i], prefix.sizes, counts);
         let (table, end) = table_at(widths, counts[i], bytes, at)?;
         placed[i] = table;
@@ -174,10 +178,10 @@ pub(crate) fn tables_at(
 // The tables of the stream of tables that begins at a place.
 #[tactic(auto, unfolding(crate::specs::Layout::tables_of))]
 pub(crate) fn tables_of(
-    tables: &[[Column; 9]; 45],
+    tables: &[[Column; MOST_COLUMNS]; TABLE_NUMBERS],
     bytes: &[u8],
     at: usize,
-) -> Result<[Placed; 45], MetaFault>
+) -> Result<[Placed; TABLE_NUMBERS], MetaFault>
     requires place { at ≤ length bytes.now }
     requires short { length bytes.now < 2 ^ 32 }
     ensures tables { result ≡ tables_of tables.now bytes.now at }

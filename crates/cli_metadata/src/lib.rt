@@ -7,9 +7,12 @@
 //! ```
 //!
 //! Places count bytes from the root's first one. The tables with their columns stand in `TABLES`, the coded indices with
-//! their tables in `Coded::targets`.
+//! their tables in `Coded::targets`. A row comes as a type that names its columns, a `TableRow`: those types are in the
+//! crate `cli_rows`.
 #![tactic(auto)]
 
+mod coded_index;
+mod coded_tokens;
 mod fault;
 mod heaps;
 mod laws;
@@ -21,12 +24,14 @@ mod row;
 mod tables;
 mod widths;
 
+pub use coded_index::{Coded, Targets};
+pub use coded_tokens::{CodedIndex, coded};
 pub use dc_base::compressed;
 pub use fault::{MetaCause, MetaFault};
-pub use laws::{faults_are_wrongs, reading_is_standing, rows_are_ranges, tables_are_the_standards};
+pub use laws::{one_reading, rows_are_whole, tables_are_the_standards};
 pub use metadata::Metadata;
-pub use row::{Row, coded};
-pub use tables::{Coded, Column, TABLES, Targets};
+pub use row::TableRow;
+pub use tables::{Column, MOST_COLUMNS, TABLE_NUMBERS, TABLES, Table};
 
 #[cfg(test)]
 mod tests;

@@ -1,14 +1,16 @@
 // Metadata as a whole.
 
 ghost use Rattle.std.specs.Prelude.{◌≡◌, ◌≤◌, ◌<◌, ◌^◌, length, take, drop, IfOk, IfErr};
-ghost use Rattle.cli_metadata.specs.Root.{IsWithin};
-ghost use Rattle.cli_metadata.specs.Metadata.{metadata_of, heap_of, rows_of, row_of, IsString, IsNoString, IsItem, IsNoItem, IsUserString, IsNoUserString, IsFaultAt};
+ghost use Rattle.cli_metadata.specs.Standing.{IsWithin, IsStanding};
+ghost use Rattle.cli_metadata.specs.Read.{metadata_of};
+ghost use Rattle.cli_metadata.specs.Wrong.{IsWrong};
+ghost use Rattle.cli_metadata.specs.Metadata.{heap_of, rows_of, row_of, IsString, IsNoString, IsItem, IsNoItem, IsUserString, IsNoUserString, IsFaultAt};
 
 use crate::layout::{Placed, tables_of};
 use crate::reading::{front, rest};
 use crate::root::{Stream, streams_of};
-use crate::row::{cells_of, placed_in, row_start};
-use crate::{MetaFault, Row, TABLES, heaps};
+use crate::row::{cells_of, row_start};
+use crate::{MetaFault, TABLE_NUMBERS, TABLES, Table, TableRow, heaps};
 use std::marker::Model;
 
 /// The metadata of a file: what its rows and heaps hold are slices of the bytes that it was made of. Contracts see the
@@ -19,13 +21,13 @@ pub struct Metadata<'a> {
     user_strings: &'a [u8],
     blobs: &'a [u8],
     stream: &'a [u8],
-    tables: [Placed; 45],
+    tables: [Placed; TABLE_NUMBERS],
 }
 
 impl<'a> Model for Metadata<'a> {
     ghost use Rattle.std.specs.Prelude.{length};
     ghost use Rattle.cli_metadata.specs.Metadata.{Contents};
-    ghost use Rattle.cli_metadata.specs.Layout.{ArePlaced};
+    ghost use Rattle.cli_metadata.specs.Standing.{ArePlaced};
 
     ghost Value = { Contents };
 
@@ -43,8 +45,17 @@ impl<'a> Model for Metadata<'a> {
 impl<'a> Metadata<'a> {
     /// Reads the metadata that begins with these bytes: its root, its streams, and where its tables stand. No row is read.
     /// What is wrong comes in the order of the causes, and of one cause the least place. Takes no memory.
-    #[tactic(auto, unfolding(crate::specs::Metadata::metadata_with))]
     pub fn of(bytes: &'a [u8]) -> Result<Metadata<'a>, MetaFault>
+        requires { length bytes.now < 2 ^ 32 }
+        ensures read { IfOk result (IsStanding bytes.now) }
+        ensures fault { IfErr result (λ fault. IsWrong bytes.now fault.place fault.cause) }
+    {
+        Metadata::read(bytes)
+    }
+
+    // The same, step by step.
+    #[tactic(auto, unfolding(crate::specs::Read::metadata_with))]
+    fn read(bytes: &'a [u8]) -> Result<Metadata<'a>, MetaFault>
         requires { length bytes.now < 2 ^ 32 }
         ensures { result ≡ metadata_of bytes.now }
     {
@@ -63,23 +74,22 @@ impl<'a> Metadata<'a> {
         })
     }
 
-    /// The number of rows of a table; 0 where there is no such table.
-    pub fn rows(&self, table: u8) -> u32
+    /// The number of rows of a table.
+    pub fn rows(&self, table: Table) -> u32
         ensures { result ≡ rows_of self.now table }
     {
-        placed_in(&self.tables, table).rows
+        self.tables[usize::from(table.number())].rows
     }
 
-    /// A row of a table, in constant time. Rows count from 1.
-    pub fn row(&self, table: u8, n: u32) -> Row
+    /// A row, in constant time. Rows count from 1.
+    pub fn row<R: TableRow>(&self, n: u32) -> R
         requires low { 1 ≤ n }
-        requires high { n ≤ rows_of self.now table }
-        ensures { result ≡ row_of self.now table n }
+        requires high { n ≤ rows_of self.now R.TABLE }
+        ensures { result ≡ R.of_cells (row_of self.now R.TABLE n) }
     {
-        let placed = placed_in(&self.tables, table);
+        let placed = self.tables[usize::from(R::TABLE.number())];
         let start = row_start(&placed, n, self.stream.len());
-        let cells = cells_of(&placed.widths, rest(self.stream, start));
-        Row { table, cells }
+        R::of(&cells_of(&placed.widths, rest(self.stream, start)))
     }
 
     /// The text that begins at a place of the heap of strings.

@@ -3,7 +3,8 @@
 ghost use Rattle.std.specs.Prelude.{◌≡◌, ◌≤◌, ◌<◌, ◌+◌, ◌^◌, ℕ, length, IfOk, IfNone, OnOk, Ok, Some, IsOk, codes, ◌∷◌, []};
 ghost use Rattle.std.specs.Option.{option_map};
 ghost use Rattle.cli_metadata.specs.Reading.{Gives};
-ghost use Rattle.cli_metadata.specs.Root.{name_at, root_of, header_at, headers_at, name_of, named, past_end, earlier, first_past_end, streams_in, streams_of, padded, end_of, named_in, AreWithin, AreWithinAll};
+ghost use Rattle.cli_metadata.specs.Root.{name_at, root_of, header_at, headers_at, name_of, named, past_end, earlier, first_past_end, streams_in, streams_of, end_of, named_in, AreWithinAll};
+ghost use Rattle.cli_metadata.specs.Standing.{padded, AreWithin};
 ghost use Rattle.cli_metadata.specs.RootViews.{header_of, root_as};
 
 use crate::reading::{behind, check, fault, front, rest, u16_at, u32_at, zero_in};

@@ -1,13 +1,113 @@
-// The tables and their columns, and the coded indices and their tables.
-ghost use Rattle.std.specs.Prelude.{◌≡◌, ◌≤◌};
-ghost use Rattle.cli_metadata.specs.Tables.{targets_of};
+// The tables of the standard with their columns.
 
+ghost use Rattle.std.specs.Prelude.{◌≡◌, ◌<◌};
+ghost use Rattle.cli_metadata.specs.Numbers.{number_of, table_numbers};
+
+use crate::Coded;
 use Coded::{
     CustomAttributeType, HasConstant, HasCustomAttribute, HasDeclSecurity, HasFieldMarshal,
     HasSemantics, Implementation, MemberForwarded, MemberRefParent, MethodDefOrRef,
     ResolutionScope, TypeDefOrRef, TypeOrMethodDef,
 };
-use Column::{Absent, Blob, Guid, Number1, Number2, Number4, Strings, Table};
+use Column::{Absent, Blob, Guid, Number1, Number2, Number4, Row, Strings};
+
+/// The tables (ECMA-335 II.22).
+#[derive(Clone, Copy, Debug, PartialEq, Eq)]
+pub enum Table {
+    Module,
+    TypeRef,
+    TypeDef,
+    Field,
+    MethodDef,
+    Param,
+    InterfaceImpl,
+    MemberRef,
+    Constant,
+    CustomAttribute,
+    FieldMarshal,
+    DeclSecurity,
+    ClassLayout,
+    FieldLayout,
+    StandAloneSig,
+    EventMap,
+    Event,
+    PropertyMap,
+    Property,
+    MethodSemantics,
+    MethodImpl,
+    ModuleRef,
+    TypeSpec,
+    ImplMap,
+    FieldRva,
+    Assembly,
+    AssemblyProcessor,
+    AssemblyOs,
+    AssemblyRef,
+    AssemblyRefProcessor,
+    AssemblyRefOs,
+    File,
+    ExportedType,
+    ManifestResource,
+    NestedClass,
+    GenericParam,
+    MethodSpec,
+    GenericParamConstraint,
+}
+
+impl Table {
+    /// The number of the table, which is the high byte of the tokens of its rows.
+    pub fn number(self) -> u8
+        ensures number { result ≡ number_of self }
+        ensures low { result < table_numbers }
+    {
+        match self {
+            Table::Module => 0x00,
+            Table::TypeRef => 0x01,
+            Table::TypeDef => 0x02,
+            Table::Field => 0x04,
+            Table::MethodDef => 0x06,
+            Table::Param => 0x08,
+            Table::InterfaceImpl => 0x09,
+            Table::MemberRef => 0x0A,
+            Table::Constant => 0x0B,
+            Table::CustomAttribute => 0x0C,
+            Table::FieldMarshal => 0x0D,
+            Table::DeclSecurity => 0x0E,
+            Table::ClassLayout => 0x0F,
+            Table::FieldLayout => 0x10,
+            Table::StandAloneSig => 0x11,
+            Table::EventMap => 0x12,
+            Table::Event => 0x14,
+            Table::PropertyMap => 0x15,
+            Table::Property => 0x17,
+            Table::MethodSemantics => 0x18,
+            Table::MethodImpl => 0x19,
+            Table::ModuleRef => 0x1A,
+            Table::TypeSpec => 0x1B,
+            Table::ImplMap => 0x1C,
+            Table::FieldRva => 0x1D,
+            Table::Assembly => 0x20,
+            Table::AssemblyProcessor => 0x21,
+            Table::AssemblyOs => 0x22,
+            Table::AssemblyRef => 0x23,
+            Table::AssemblyRefProcessor => 0x24,
+            Table::AssemblyRefOs => 0x25,
+            Table::File => 0x26,
+            Table::ExportedType => 0x27,
+            Table::ManifestResource => 0x28,
+            Table::NestedClass => 0x29,
+            Table::GenericParam => 0x2A,
+            Table::MethodSpec => 0x2B,
+            Table::GenericParamConstraint => 0x2C,
+        }
+    }
+}
+
+/// How many numbers a table may have: each table's is below it.
+pub const TABLE_NUMBERS: usize = 45;
+
+/// The most columns that a table has.
+pub const MOST_COLUMNS: usize = 9;
 
 /// What a cell of a column is (ECMA-335 II.22): a number of as many bytes, a place in a heap, a row of one table, or a
 /// row of one of several tables.
@@ -21,34 +121,8 @@ pub enum Column {
     Strings,
     Guid,
     Blob,
-    Table(u8),
+    Row(Table),
     Coded(Coded),
-}
-
-/// The kinds of coded indices (ECMA-335 II.24.2.6).
-#[derive(Clone, Copy, Debug, PartialEq, Eq)]
-pub enum Coded {
-    TypeDefOrRef,
-    HasConstant,
-    HasCustomAttribute,
-    HasFieldMarshal,
-    HasDeclSecurity,
-    MemberRefParent,
-    HasSemantics,
-    MethodDefOrRef,
-    MemberForwarded,
-    Implementation,
-    CustomAttributeType,
-    ResolutionScope,
-    TypeOrMethodDef,
-}
-
-/// The tables that a coded index may name, each at its tag, which stands in the lowest bits of the cell. No table has a
-/// tag that isn't listed.
-#[derive(Clone, Copy, Debug, PartialEq, Eq)]
-pub struct Targets {
-    pub bits: u32,
-    pub tables: [Option<u8>; 22],
 }
 
 // A table's columns, with none behind the last.
@@ -64,7 +138,7 @@ macro_rules! columns {
 }
 
 /// The columns of each table, by the table's number. A number that no table has has no column.
-pub const TABLES: [[Column; 9]; 45] = [
+pub const TABLES: [[Column; MOST_COLUMNS]; TABLE_NUMBERS] = [
     // 00 Module
     columns![Number2, Strings, Guid, Guid, Guid],
     // 01 TypeRef
@@ -75,8 +149,8 @@ pub const TABLES: [[Column; 9]; 45] = [
         Strings,
         Strings,
         Column::Coded(TypeDefOrRef),
-        Table(0x04),
-        Table(0x06)
+        Row(Table::Field),
+        Row(Table::MethodDef)
     ],
     // 03
     columns![],
@@ -85,13 +159,13 @@ pub const TABLES: [[Column; 9]; 45] = [
     // 05
     columns![],
     // 06 MethodDef
-    columns![Number4, Number2, Number2, Strings, Blob, Table(0x08)],
+    columns![Number4, Number2, Number2, Strings, Blob, Row(Table::Param)],
     // 07
     columns![],
     // 08 Param
     columns![Number2, Number2, Strings],
     // 09 InterfaceImpl
-    columns![Table(0x02), Column::Coded(TypeDefOrRef)],
+    columns![Row(Table::TypeDef), Column::Coded(TypeDefOrRef)],
     // 0A MemberRef
     columns![Column::Coded(MemberRefParent), Strings, Blob],
     // 0B Constant
@@ -107,28 +181,28 @@ pub const TABLES: [[Column; 9]; 45] = [
     // 0E DeclSecurity
     columns![Number2, Column::Coded(HasDeclSecurity), Blob],
     // 0F ClassLayout
-    columns![Number2, Number4, Table(0x02)],
+    columns![Number2, Number4, Row(Table::TypeDef)],
     // 10 FieldLayout
-    columns![Number4, Table(0x04)],
+    columns![Number4, Row(Table::Field)],
     // 11 StandAloneSig
     columns![Blob],
     // 12 EventMap
-    columns![Table(0x02), Table(0x14)],
+    columns![Row(Table::TypeDef), Row(Table::Event)],
     // 13
     columns![],
     // 14 Event
     columns![Number2, Strings, Column::Coded(TypeDefOrRef)],
     // 15 PropertyMap
-    columns![Table(0x02), Table(0x17)],
+    columns![Row(Table::TypeDef), Row(Table::Property)],
     // 16
     columns![],
     // 17 Property
     columns![Number2, Strings, Blob],
     // 18 MethodSemantics
-    columns![Number2, Table(0x06), Column::Coded(HasSemantics)],
+    columns![Number2, Row(Table::MethodDef), Column::Coded(HasSemantics)],
     // 19 MethodImpl
     columns![
-        Table(0x02),
+        Row(Table::TypeDef),
         Column::Coded(MethodDefOrRef),
         Column::Coded(MethodDefOrRef)
     ],
@@ -141,10 +215,10 @@ pub const TABLES: [[Column; 9]; 45] = [
         Number2,
         Column::Coded(MemberForwarded),
         Strings,
-        Table(0x1A)
+        Row(Table::ModuleRef)
     ],
     // 1D FieldRVA
-    columns![Number4, Table(0x04)],
+    columns![Number4, Row(Table::Field)],
     // 1E
     columns![],
     // 1F
@@ -162,9 +236,9 @@ pub const TABLES: [[Column; 9]; 45] = [
         Number2, Number2, Number2, Number2, Number4, Blob, Strings, Strings, Blob
     ],
     // 24 AssemblyRefProcessor
-    columns![Number4, Table(0x23)],
+    columns![Number4, Row(Table::AssemblyRef)],
     // 25 AssemblyRefOS
-    columns![Number4, Number4, Number4, Table(0x23)],
+    columns![Number4, Number4, Number4, Row(Table::AssemblyRef)],
     // 26 File
     columns![Number4, Strings, Blob],
     // 27 ExportedType
@@ -178,144 +252,11 @@ pub const TABLES: [[Column; 9]; 45] = [
     // 28 ManifestResource
     columns![Number4, Number4, Strings, Column::Coded(Implementation)],
     // 29 NestedClass
-    columns![Table(0x02), Table(0x02)],
+    columns![Row(Table::TypeDef), Row(Table::TypeDef)],
     // 2A GenericParam
     columns![Number2, Number2, Column::Coded(TypeOrMethodDef), Strings],
     // 2B MethodSpec
     columns![Column::Coded(MethodDefOrRef), Blob],
     // 2C GenericParamConstraint
-    columns![Table(0x2A), Column::Coded(TypeDefOrRef)],
+    columns![Row(Table::GenericParam), Column::Coded(TypeDefOrRef)],
 ];
-
-// The tables of a coded index, with none behind the last.
-macro_rules! tables {
-    ($a:expr, $b:expr) => { [$a, $b, None, None, None, None, None, None, None, None, None, None, None, None, None, None, None, None, None, None, None, None] };
-    ($a:expr, $b:expr, $c:expr) => { [$a, $b, $c, None, None, None, None, None, None, None, None, None, None, None, None, None, None, None, None, None, None, None] };
-    ($a:expr, $b:expr, $c:expr, $d:expr) => { [$a, $b, $c, $d, None, None, None, None, None, None, None, None, None, None, None, None, None, None, None, None, None, None] };
-    ($a:expr, $b:expr, $c:expr, $d:expr, $e:expr) => { [$a, $b, $c, $d, $e, None, None, None, None, None, None, None, None, None, None, None, None, None, None, None, None, None] };
-}
-
-/// The tables of `TypeDefOrRef`.
-pub const TYPE_DEF_OR_REF: Targets = Targets {
-    bits: 2,
-    tables: tables![Some(0x02), Some(0x01), Some(0x1B)],
-};
-
-/// The tables of `HasConstant`.
-pub const HAS_CONSTANT: Targets = Targets {
-    bits: 2,
-    tables: tables![Some(0x04), Some(0x08), Some(0x17)],
-};
-
-/// The tables of `HasCustomAttribute`.
-pub const HAS_CUSTOM_ATTRIBUTE: Targets = Targets {
-    bits: 5,
-    tables: [
-        Some(0x06),
-        Some(0x04),
-        Some(0x01),
-        Some(0x02),
-        Some(0x08),
-        Some(0x09),
-        Some(0x0A),
-        Some(0x00),
-        Some(0x0E),
-        Some(0x17),
-        Some(0x14),
-        Some(0x11),
-        Some(0x1A),
-        Some(0x1B),
-        Some(0x20),
-        Some(0x23),
-        Some(0x26),
-        Some(0x27),
-        Some(0x28),
-        Some(0x2A),
-        Some(0x2C),
-        Some(0x2B),
-    ],
-};
-
-/// The tables of `HasFieldMarshal`.
-pub const HAS_FIELD_MARSHAL: Targets = Targets {
-    bits: 1,
-    tables: tables![Some(0x04), Some(0x08)],
-};
-
-/// The tables of `HasDeclSecurity`.
-pub const HAS_DECL_SECURITY: Targets = Targets {
-    bits: 2,
-    tables: tables![Some(0x02), Some(0x06), Some(0x20)],
-};
-
-/// The tables of `MemberRefParent`.
-pub const MEMBER_REF_PARENT: Targets = Targets {
-    bits: 3,
-    tables: tables![Some(0x02), Some(0x01), Some(0x1A), Some(0x06), Some(0x1B)],
-};
-
-/// The tables of `HasSemantics`.
-pub const HAS_SEMANTICS: Targets = Targets {
-    bits: 1,
-    tables: tables![Some(0x14), Some(0x17)],
-};
-
-/// The tables of `MethodDefOrRef`.
-pub const METHOD_DEF_OR_REF: Targets = Targets {
-    bits: 1,
-    tables: tables![Some(0x06), Some(0x0A)],
-};
-
-/// The tables of `MemberForwarded`.
-pub const MEMBER_FORWARDED: Targets = Targets {
-    bits: 1,
-    tables: tables![Some(0x04), Some(0x06)],
-};
-
-/// The tables of `Implementation`.
-pub const IMPLEMENTATION: Targets = Targets {
-    bits: 2,
-    tables: tables![Some(0x26), Some(0x23), Some(0x27)],
-};
-
-/// The tables of `CustomAttributeType`.
-pub const CUSTOM_ATTRIBUTE_TYPE: Targets = Targets {
-    bits: 3,
-    tables: tables![None, None, Some(0x06), Some(0x0A)],
-};
-
-/// The tables of `ResolutionScope`.
-pub const RESOLUTION_SCOPE: Targets = Targets {
-    bits: 2,
-    tables: tables![Some(0x00), Some(0x1A), Some(0x23), Some(0x01)],
-};
-
-/// The tables of `TypeOrMethodDef`.
-pub const TYPE_OR_METHOD_DEF: Targets = Targets {
-    bits: 1,
-    tables: tables![Some(0x02), Some(0x06)],
-};
-
-impl Coded {
-    /// The tables that an index of this kind may name.
-    pub fn targets(self) -> Targets
-        ensures same { result ≡ targets_of self }
-        ensures few { result.bits ≤ 5 }
-    {
-        match self {
-            Coded::TypeDefOrRef => TYPE_DEF_OR_REF,
-            Coded::HasConstant => HAS_CONSTANT,
-            Coded::HasCustomAttribute => HAS_CUSTOM_ATTRIBUTE,
-            Coded::HasFieldMarshal => HAS_FIELD_MARSHAL,
-            Coded::HasDeclSecurity => HAS_DECL_SECURITY,
-            Coded::MemberRefParent => MEMBER_REF_PARENT,
-            Coded::HasSemantics => HAS_SEMANTICS,
-            Coded::MethodDefOrRef => METHOD_DEF_OR_REF,
-            Coded::MemberForwarded => MEMBER_FORWARDED,
-            Coded::Implementation => IMPLEMENTATION,
-            Coded::CustomAttributeType => CUSTOM_ATTRIBUTE_TYPE,
-            Coded::ResolutionScope => RESOLUTION_SCOPE,
-            Coded::TypeOrMethodDef => TYPE_OR_METHOD_DEF,
-        }
-    }
-}

@@ -4,8 +4,8 @@ ghost use Rattle.std.specs.Prelude.{◌<◌, ◌^◌, length};
 
 use crate::widths::{row_width, widths_of};
 use crate::{
-    Coded, MetaCause, MetaFault, Metadata, TABLES, coded, compressed, rows_are_ranges,
-    tables_are_the_standards,
+    Coded, CodedIndex, MOST_COLUMNS, MetaCause, MetaFault, Metadata, TABLES, Table, TableRow,
+    coded, compressed, one_reading, rows_are_whole, tables_are_the_standards,
 };
 use dc_base::Token;
 use std::process::Abort;
@@ -44,22 +44,48 @@ const OTHER: [u8; 163] = [
     0x00, 0x00, 0x00,
 ];
 
+// The cells of a row of TypeRef.
+#[derive(Clone, Copy)]
+struct TypeRefRow {
+    scope: u32,
+    name: u32,
+    namespace: u32,
+}
+
+impl TableRow for TypeRefRow {
+    ghost use Rattle.std.specs.Prelude.{slice_index};
+    ghost use Rattle.cli_metadata.specs.declared.tables.Table.TheVariants.{TypeRef};
+
+    ghost of_cells = { λ cells. record {
+      scope = slice_index cells 0;
+      name = slice_index cells 1;
+      namespace = slice_index cells 2;
+    } };
+
+    ghost TABLE = { TypeRef };
+
+    const TABLE: Table = Table::TypeRef;
+
+    fn of(cells: &[u32; MOST_COLUMNS]) -> Self {
+        TypeRefRow {
+            scope: cells[0],
+            name: cells[1],
+            namespace: cells[2],
+        }
+    }
+}
+
 #[test]
-fn reads_rows_and_heaps(rt: HostRuntime) -> Result<(), Fail> {
+fn reads_rows_by_their_number(rt: HostRuntime) -> Result<(), Fail> {
     let m = Metadata::of(&WHOLE)?;
-    assert_eq!(rt; m.rows(0x00), 1);
-    assert_eq!(rt; m.rows(0x01), 2);
-    assert_eq!(rt; m.rows(0x06), 0);
-    assert_eq!(rt; m.rows(0x2D), 0);
-    let rows = m.rows(0x01);
+    assert_eq!(rt; m.rows(Table::Module), 1);
+    assert_eq!(rt; m.rows(Table::TypeRef), 2);
+    assert_eq!(rt; m.rows(Table::MethodDef), 0);
+    let rows = m.rows(Table::TypeRef);
     assert!(rt; 2 <= rows);
-    assert!(rt; m.row(0x01, 1).cells == [0x12, 3, 1, 0, 0, 0, 0, 0, 0]);
-    assert!(rt; m.row(0x01, 2).cells == [0x06, 1, 3, 0, 0, 0, 0, 0, 0]);
-    let rows = m.rows(0x02);
-    assert!(rt; 1 <= rows);
-    let row = m.row(0x02, 1);
-    assert_eq!(rt; row.table, 0x02);
-    assert!(rt; row.cells == [0x10_0001, 3, 1, 5, 1, 1, 0, 0, 0]);
+    let (first, second): (TypeRefRow, TypeRefRow) = (m.row(1), m.row(2));
+    assert!(rt; (first.scope, first.name, first.namespace) == (0x12, 3, 1));
+    assert!(rt; (second.scope, second.name, second.namespace) == (0x06, 1, 3));
     Ok(())
 }
 
@@ -109,6 +135,8 @@ fn faults_stand_at_their_places(rt: HostRuntime) {
         (33, 0x78, MetaCause::BadStream, 100),
         (104, 0x01, MetaCause::BadHeader, 104),
         (105, 0x01, MetaCause::BadHeader, 105),
+        (106, 0x08, MetaCause::BadHeader, 106),
+        (106, 0x81, MetaCause::BadHeader, 106),
         (28, 0x14, MetaCause::BadHeader, 116),
         (108, 0x0F, MetaCause::UnknownTable, 108),
         (113, 0x20, MetaCause::UnknownTable, 108),
@@ -160,6 +188,8 @@ fn indices_grow_wide_where_two_bytes_are_too_few(rt: HostRuntime) {
 fn coded_indices_name_rows_of_listed_tables(rt: HostRuntime) {
     assert!(rt; coded(Coded::TypeDefOrRef, 5) == Some(Token(0x0100_0001)));
     assert!(rt; coded(Coded::TypeDefOrRef, 7).is_none());
+    let kind = Coded::TypeDefOrRef;
+    assert!(rt; CodedIndex { kind, cell: 5 }.token() == Some(Token(0x0100_0001)));
     assert!(rt; coded(Coded::ResolutionScope, 0) == Some(Token(0)));
     assert!(rt; coded(Coded::CustomAttributeType, 9).is_none());
     assert!(rt; coded(Coded::CustomAttributeType, 10) == Some(Token(0x0600_0001)));
@@ -167,7 +197,8 @@ fn coded_indices_name_rows_of_listed_tables(rt: HostRuntime) {
     assert!(rt; coded(Coded::TypeDefOrRef, 0x0400_0000).is_none());
     assert!(rt; compressed(&[0x80, 0x80]) == Some((128, 2)));
     tables_are_the_standards();
-    rows_are_ranges();
+    one_reading();
+    rows_are_whole();
 }
 
 fn refuses<R: Abort>(rt: &R, bytes: &[u8], cause: MetaCause, place: u32)

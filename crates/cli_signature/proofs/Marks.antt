@@ -9,13 +9,12 @@ use Rattle.dc_base.specs.Spelling.{spelling}
 use Rattle.cli_signature.specs.declared.element.Part.{Part}
 use Rattle.cli_signature.specs.declared.element.Part.TheVariants as part
 use Rattle.cli_signature.specs.declared.element.Element.{Element}
-use Rattle.cli_signature.specs.declared.element.TheConstants.{ELEMENTS}
 use Rattle.cli_signature.specs.declared.kind.Slot.{Slot}
 use Rattle.cli_signature.specs.declared.kind.Slot.TheVariants.{Behind}
 use Rattle.cli_signature.specs.declared.raw.RawTy.{RawTy}
 use Rattle.cli_signature.specs.declared.raw.SigFault.{SigFault}
 use Rattle.cli_signature.specs.declared.raw.SigFault.TheVariants.{Truncated, BadElement, OutOfProfile}
-use Rattle.cli_signature.specs.Element.{entry_of, part_in, part_of}
+use Rattle.cli_signature.specs.Element.{element_types, entry_of, part_in, part_of}
 use Rattle.cli_signature.specs.Grammar.{Shape, Plain, Named, Array, Way, Bare, Lent, Void, TakesRef, TakesVoid, IsWay, spelled_shape, spelled_way, IsWayWord, raw_of_shape, raw_of, token_of}
 use Rattle.cli_signature.specs.Fault.{IsViable}
 use Rattle.cli_signature.specs.Reading.{Begins, Stops, IsDue, IsFaultAt, ReadsWay, IsNumberWord, ReadsNumber, IsTaken, IsMarkPart}
@@ -76,7 +75,7 @@ abbrev all_own : List Element → Type 0
 all_own [] = Unit {0}
 all_own (e ∷ es) = own_byte e.part e.byte × all_own es
 
-elements_own : all_own ELEMENTS
+elements_own : all_own element_types
 elements_own = (refl, (tt, (tt, (tt, (tt, (tt, (tt, (tt, (tt, (tt, (tt, (tt, (tt, (tt, (tt, (refl, (tt, (tt, (tt, (tt, (tt, (tt, (tt, (tt, (tt, (tt, (refl, (tt, (tt, (tt, (tt, (tt, tt))))))))))))))))))))))))))))))))
 
 found_own : (e : Element) (es : List Element) (byte : ℕ) (t : Bool) → (e.byte == byte) ≡ t → own_byte e.part e.byte → own_byte (part_in (find (λ x. x.byte == byte) es)) byte → own_byte (part_in (cond t (Some e) (find (λ x. x.byte == byte) es))) byte
@@ -89,7 +88,7 @@ find_own (e ∷ es) byte h = found_own e es byte (e.byte == byte) refl h.0 (find
 
 part_own : (byte : ℕ) → own_byte (part_of byte) byte
 unfolding entry_of
-part_own byte = find_own ELEMENTS byte elements_own
+part_own byte = find_own element_types byte elements_own
 
 pub void_byte : (byte : ℕ) → part_of byte ≡ part.Void → byte ≡ 0x01
 void_byte byte is = subst (λ (p : Part). own_byte p byte) is (part_own byte)

@@ -8,8 +8,7 @@ use Rattle.dc_base.specs.Spelling.{spelling, BeginsWithNumber}
 use Rattle.dc_base.proofs.Spelling.{begins_unique, spelling-two, spelling-four, forms, only_two, only_four, begins_one, begins_two, begins_four, none_high}
 use Rattle.cli_signature.specs.declared.element.Element.{Element}
 use Rattle.cli_signature.specs.declared.element.Part.TheVariants.{Plain, LeftOut, Unknown}
-use Rattle.cli_signature.specs.declared.element.TheConstants.{ELEMENTS}
-use Rattle.cli_signature.specs.Element.{entry_of, part_of, part_in}
+use Rattle.cli_signature.specs.Element.{element_types, entry_of, part_of, part_in}
 use Rattle.cli_signature.specs.Fault.{IsViable}
 use Rattle.std.proofs.Math.Seq.{get_or-append_seam}
 use Rattle.cli_signature.specs.declared.raw.SigFault.TheVariants.{BadElement}
@@ -20,7 +19,7 @@ use Rattle.cli_signature.proofs.Trees.{begins_from_split}
 low : Element → Bool
 low e = nat_lt e.byte 224
 
-all_low : list_all low ELEMENTS ≡ true
+all_low : list_all low element_types ≡ true
 unfolding low
 all_low = refl
 
@@ -31,7 +30,7 @@ find_past (e ∷ es) b h l = let r = find_past es b in grind (arith, nat_tests)
 
 entry_past : (b : ℕ) → 224 ≤ b → entry_of b ≡ None
 unfolding entry_of
-entry_past b h = find_past ELEMENTS b all_low h
+entry_past b h = find_past element_types b all_low h
 
 pub left_out_low : (b : ℕ) → part_of b ≡ LeftOut → b < 224
 left_out_low b h =

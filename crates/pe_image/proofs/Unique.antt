@@ -1,14 +1,15 @@
 -- What a file says it says in one way.
-use Rattle.std.proofs.Common.{◌≡◌, ℕ, ◌+◌, List, [], ◌∷◌, length, Option, Some, None, refl, sym, ap, ◌∙◌, subst, arith}
-use Rattle.std.specs.Prelude.{IfNone}
+use Rattle.std.proofs.Common.{◌≡◌, ℕ, ◌+◌, List, Option, Some, None, refl, sym, ap, ◌∙◌, subst, arith}
+use Rattle.std.specs.Prelude.{true, false, not, eqb, ◌<◌, length, IfSome, IfNone}
+use Rattle.std.specs.Option.{option_eq}
 use Rattle.pe_image.specs.declared.headers.Format.{Format}
 use Rattle.pe_image.specs.declared.headers.Format.TheVariants.{Pe32, Pe32Plus}
 use Rattle.pe_image.specs.declared.headers.Headers.{Headers}
 use Rattle.pe_image.specs.declared.sections.Section.{Section}
 use Rattle.pe_image.specs.declared.sections.Span.{Span}
-use Rattle.pe_image.specs.Number.{IsNumber, IsU32}
-use Rattle.pe_image.specs.Headers.{magic_of, IsPe}
-use Rattle.pe_image.specs.Sections.{AreSections, HasSections, range_at}
+use Rattle.pe_image.specs.Number.{IsNumber, IsU16, IsU32}
+use Rattle.pe_image.specs.Headers.{magic_of, pe_signature, IsPe}
+use Rattle.pe_image.specs.Sections.{IsSection, range_at}
 use Rattle.pe_image.specs.Cli.{Names, HasCli, directory_place}
 use Rattle.pe_image.proofs.Options.{some_is}
 
@@ -40,20 +41,21 @@ one_pe file h g a b =
     ∙ ap (λ (x : ℕ). made g.signature g.section_count x h.format) z
     ∙ ap (λ (x : Format). made g.signature g.section_count g.optional_size x) f
 
-pub one_table : (file : List ℕ) (place : ℕ) (xs ys : List Section) → length xs ≡ length ys → AreSections file place xs → AreSections file place ys → xs ≡ ys
-one_table file place [] [] e a b = refl
-one_table file place [] (y ∷ ys) e a b = absurd (omega (arith, e))
-one_table file place (x ∷ xs) [] e a b = absurd (omega (arith, e))
-one_table file place (x ∷ xs) (y ∷ ys) e a b =
-    let head : x ≡ y = sym a.0.says ∙ b.0.says in
-    let tail : xs ≡ ys = one_table file (place + 40) xs ys (omega (arith, e)) a.1 b.1 in
-    ap (λ (s : Section). s ∷ xs) head ∙ ap (λ (ss : List Section). y ∷ ss) tail
+-- without one of the magics behind the signature there are no headers
+pub no_pe : (file : List ℕ) (signature : ℕ) → IsU32 file 0x3C signature → ((format : Format) → IsU16 file (signature + 24) (magic_of format) → ⊥) → (h : Headers) → IsPe file h → ⊥
+no_pe file signature named never h a =
+    never h.format (subst (λ (x : ℕ). IsU16 file (x + 24) (magic_of h.format)) (one_number 4 file 0x3C _ _ a.named named) a.magic)
 
-pub one_sections : (file : List ℕ) (h g : Headers) (xs ys : List Section) → HasSections file h xs → HasSections file g ys → (h ≡ g) × (xs ≡ ys)
-one_sections file h g xs ys a b =
-    let e = one_pe file h g a.pe b.pe in
-    let a' : HasSections file g xs = subst (λ (x : Headers). HasSections file x xs) e a in
-    (e, one_table file _ xs ys (a'.count ∙ sym b.count) a'.table b.table)
+-- a number that was read and isn't the signature is no signature
+pub not_signed : {file : List ℕ} (o : Option ℕ) (place : ℕ) → IfSome o (IsU32 file place) → IfNone o (length file < place + 4) → true ≡ not (option_eq eqb o (Some pe_signature)) → IsU32 file place pe_signature → ⊥
+not_signed None place found past differs is = omega (arith, past, is.within)
+not_signed {file} (Some n) place found past differs is =
+    let same : n ≡ pe_signature = one_number 4 file place n pe_signature found is in
+    let no : true ≡ false = subst (λ (m : ℕ). true ≡ not (eqb m pe_signature)) same differs in
+    absurd cc
+
+pub one_section : (file : List ℕ) (place : ℕ) (s t : Section) → IsSection file place s → IsSection file place t → s ≡ t
+one_section file place s t a b = sym a.says ∙ b.says
 
 pub one_metadata : (file : List ℕ) (ss : List Section) (cli m n : Span) → Names file ss cli m → Names file ss cli n → m ≡ n
 one_metadata file ss cli m n a b =
@@ -72,15 +74,10 @@ pub no_names : (file : List ℕ) (h : Headers) (ss : List Section) (address : �
 no_names file h ss address cli directory header never c m has =
     never m (subst (λ (x : Span). Names file ss x m) (one_header file h ss address cli c m directory header has) has.names)
 
-pub one_cli : (file : List ℕ) (h : Headers) (ss : List Section) (c d m n : Span) → HasCli file h ss c m → HasCli file h ss d n → (c ≡ d) × (m ≡ n)
-one_cli file h ss c d m n a b =
-    let e = one_header file h ss b.address d c m b.directory b.header a in
-    (e, one_metadata file ss d m n (subst (λ (x : Span). Names file ss x m) e a.names) b.names)
-
--- the same where headers and sections are found each time anew
-pub one_cli_of : (file : List ℕ) (h g : Headers) (xs ys : List Section) (c d m n : Span) → HasCli file h xs c m → HasCli file g ys d n → (c ≡ d) × (m ≡ n) × (xs ≡ ys)
-one_cli_of file h g xs ys c d m n a b =
-    let e = one_sections file h g xs ys a.found b.found in
-    let a' : HasCli file g ys c m = subst (λ (x : List Section). HasCli file g x c m) e.1 (subst (λ (x : Headers). HasCli file x xs c m) e.0 a) in
-    let same = one_cli file g ys c d m n a' b in
-    (same.0, same.1, e.1)
+pub one_cli : (file : List ℕ) (h : Headers) (ss : List Section) (a b : Span × Span) → HasCli file h ss a.0 a.1 → HasCli file h ss b.0 b.1 → a ≡ b
+one_cli file h ss a b p q =
+    let cli : a.0 ≡ b.0 = one_header file h ss q.address b.0 a.0 a.1 q.directory q.header p in
+    let metadata : a.1 ≡ b.1 = one_metadata file ss b.0 a.1 b.1 (subst (λ (x : Span). Names file ss x a.1) cli p.names) q.names in
+    let first : ◌≡◌ {A = Span × Span} (a.0, a.1) (b.0, a.1) = ap (λ (x : Span). (x, a.1)) cli in
+    let second : ◌≡◌ {A = Span × Span} (b.0, a.1) (b.0, b.1) = ap (λ (x : Span). (b.0, x)) metadata in
+    first ∙ second

@@ -5,7 +5,7 @@ use Rattle.pe_image.specs.declared.sections.Section.{Section}
 use Rattle.pe_image.specs.declared.sections.Span.{Span}
 use Rattle.pe_image.specs.Number.{IsU32}
 use Rattle.pe_image.specs.Headers.{optional_place, cli_directory_of}
-use Rattle.pe_image.specs.Sections.{HasSections, range_at}
+use Rattle.pe_image.specs.Sections.{range_at}
 
 -- where data directory 14 stands in the file: the address of the CLI header, and its size
 abbrev pub directory_place : Headers → ℕ
@@ -21,7 +21,6 @@ pub record Names (file : List ℕ) (sections : List Section) (cli metadata : Spa
 
 -- data directory 14 is in the optional header and names the 72 bytes of a CLI header, which names this metadata
 pub record HasCli (file : List ℕ) (h : Headers) (sections : List Section) (cli metadata : Span) : Type 0 where
-  pub found : HasSections file h sections
   pub room : cli_directory_of h.format + 8 ≤ h.optional_size
   pub address : ℕ
   pub directory : IsU32 file (directory_place h) address

@@ -1,10 +1,8 @@
 -- The sections of an image, and where in its file the bytes at an address are (ECMA-335 II.25.3).
-use Rattle.std.specs.Prelude.{◌≡◌, ℕ, ◌+◌, ◌-◌, ◌≤◌, Bool, ◌&&◌, nat_le, List, [], ◌∷◌, length, take, drop, Option, find, option_map}
-use Rattle.pe_image.specs.declared.headers.Headers.{Headers}
+use Rattle.std.specs.Prelude.{◌≡◌, ℕ, ◌+◌, ◌-◌, ◌≤◌, Bool, ◌&&◌, nat_le, List, length, take, drop, Option, find, option_map}
 use Rattle.pe_image.specs.declared.sections.Section.{Section}
 use Rattle.pe_image.specs.declared.sections.Span.{Span}
 use Rattle.pe_image.specs.Number.{number_at}
-use Rattle.pe_image.specs.Headers.{IsPe, table_place}
 
 -- what a section header of 40 bytes says
 abbrev pub section_of : List ℕ → Section
@@ -16,17 +14,6 @@ pub record IsSection (file : List ℕ) (place : ℕ) (s : Section) : Type 0 wher
   pub within : place + 40 ≤ length file
   pub says : section_of (drop place file) ≡ s
   pub raw : s.start + s.size ≤ length file
-
--- from this place on stand the headers of these sections, one directly behind the other
-abbrev pub AreSections : List ℕ → ℕ → List Section → Type 0
-AreSections file place [] = Unit {0}
-AreSections file place (s ∷ sections) = IsSection file place s × AreSections file (place + 40) sections
-
--- the file has these headers, and as many sections as they say
-pub record HasSections (file : List ℕ) (h : Headers) (sections : List Section) : Type 0 where
-  pub pe : IsPe file h
-  pub count : length sections ≡ h.section_count
-  pub table : AreSections file (table_place h) sections
 
 -- the section's raw bytes are loaded so that they hold `len` bytes from the address `rva` on
 abbrev pub holds : ℕ → ℕ → Section → Bool

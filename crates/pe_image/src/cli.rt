@@ -2,7 +2,6 @@
 
 ghost use Rattle.std.specs.Prelude.{◌≡◌, ◌+◌, ◌≤◌, length, IfSome, IfNone};
 ghost use Rattle.std.specs.Bool.{OnTrue, OnFalse};
-ghost use Rattle.pe_image.specs.Sections.{HasSections};
 ghost use Rattle.pe_image.specs.Table.{sections_of, IsTable};
 ghost use Rattle.pe_image.specs.Cli.{Names, HasCli, IsIlOnly, directory_place};
 ghost use Rattle.pe_image.specs.declared.sections.Span.{Span};
@@ -23,8 +22,7 @@ pub fn directory_of(headers: Headers) -> usize
 
 /// The ranges of the CLI header and of the metadata that it names.
 pub fn cli_of(file: &[u8], headers: Headers, table: Table) -> Option<(Span, Span)>
-    requires sections { HasSections file.now headers (sections_of file.now table) }
-    requires table { IsTable file.now table }
+    requires { IsTable file.now table }
     ensures found { IfSome result (λ found. HasCli file.now headers (sections_of file.now table) found.0 found.1) }
     ensures none { IfNone result
         ((cli metadata : Span) → HasCli file.now headers (sections_of file.now table) cli metadata → ⊥) }

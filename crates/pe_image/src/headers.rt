@@ -2,7 +2,8 @@
 
 ghost use Rattle.std.specs.Prelude.{◌≡◌, ◌+◌, ◌≤◌, ◌^◌, length, IfOk, IfErr, IfSome, IfNone};
 ghost use Rattle.pe_image.specs.Headers.{magic_of, cli_directory_of, optional_place, table_place, IsPe};
-ghost use Rattle.pe_image.specs.Fault.{IsImageFault};
+ghost use Rattle.dc_causes.specs.Answer.{ReadBy, FaultOf};
+ghost use Rattle.pe_image.specs.Image.{wrong, ReadsHeaders};
 ghost use Rattle.pe_image.specs.declared.headers.Format.{Format};
 
 use crate::fault::{ImageCause, ImageFault};
@@ -70,8 +71,9 @@ impl Headers {
 /// The headers of a PE file.
 pub fn headers_of(file: &[u8]) -> Result<Headers, ImageFault>
     requires { length file.now ≤ 2 ^ 31 }
-    ensures read { IfOk result (IsPe file.now) }
-    ensures fault { IfErr result (IsImageFault file.now) }
+    ensures read { IfOk result (ReadBy (ReadsHeaders file.now)) }
+    ensures pe { IfOk result (IsPe file.now) }
+    ensures fault { IfErr result (FaultOf (ReadsHeaders file.now)) }
 {
     let Some(signature) = u32_at(file, 0x3C) else {
         return Err(not_pe(0));
@@ -92,7 +94,7 @@ pub fn headers_of(file: &[u8]) -> Result<Headers, ImageFault>
 }
 
 fn not_pe(place: u32) -> ImageFault
-    ensures { result ≡ record { cause = ImageCause.NotPe; place = place } }
+    ensures { result ≡ wrong ImageCause.NotPe place }
 {
     ImageFault {
         cause: ImageCause::NotPe,

@@ -62,8 +62,8 @@ impl<'a> Image<'a> {
     }
 
     /// The `len` bytes at the address `rva`, where a section's raw bytes hold them all. Of several sections the first
-    /// counts.
-    pub fn at(&self, rva: u32, len: u32) -> Option<&[u8]>
+    /// counts. They are lent from the file, and outlive the image. Each call goes over the section headers.
+    pub fn at(&self, rva: u32, len: u32) -> Option<&'a [u8]>
         ensures bytes { option_copied result ≡ option_map (bytes_in self.now.file) (range_at self.now.sections rva len) }
         ensures len { IfSome result (λ bytes. length bytes.now ≡ len) }
         ensures short { IfSome result (λ bytes. length bytes.now ≤ 2 ^ 31) }
@@ -72,8 +72,9 @@ impl<'a> Image<'a> {
         Some(range.of(self.file))
     }
 
-    /// The bytes from the address `rva` to the raw end of the first section that holds the byte at it.
-    pub fn rest(&self, rva: u32) -> Option<&[u8]>
+    /// The bytes from the address `rva` to the raw end of the first section that holds the byte at it, lent from the file.
+    /// Each call goes over the section headers, as [`Image::at`] does.
+    pub fn rest(&self, rva: u32) -> Option<&'a [u8]>
         ensures bytes { option_copied result ≡ option_map (bytes_in self.now.file) (range_from self.now.sections rva) }
         ensures short { IfSome result (λ bytes. length bytes.now ≤ 2 ^ 31) }
     {
@@ -81,8 +82,8 @@ impl<'a> Image<'a> {
         Some(range.of(self.file))
     }
 
-    /// The metadata that the CLI header names.
-    pub fn metadata(&self) -> &[u8]
+    /// The metadata that the CLI header names, lent from the file.
+    pub fn metadata(&self) -> &'a [u8]
         ensures bytes { result.now ≡ bytes_in self.now.file self.now.metadata }
         ensures short { length result.now ≤ 2 ^ 31 }
     {

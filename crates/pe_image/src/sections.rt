@@ -2,9 +2,10 @@
 
 ghost use Rattle.std.specs.Prelude.{◌≡◌, ◌+◌, ◌≤◌, ◌^◌, length, drop, find, IfSome, IfErr, IfOk, IsTrue};
 ghost use Rattle.std.specs.Bool.{OnTrue, OnFalse};
+ghost use Rattle.dc_causes.specs.Answer.{FaultOf};
 ghost use Rattle.pe_image.specs.Headers.{IsPe};
-ghost use Rattle.pe_image.specs.Fault.{IsImageFault};
-ghost use Rattle.pe_image.specs.Sections.{section_of, IsSection, HasSections, holds, place_of, range_at, range_from, bytes_in};
+ghost use Rattle.pe_image.specs.Image.{ReadsSections};
+ghost use Rattle.pe_image.specs.Sections.{section_of, IsSection, holds, place_of, range_at, range_from, bytes_in};
 ghost use Rattle.pe_image.specs.Table.{sections_of, IsTable};
 ghost use Rattle.pe_image.specs.declared.sections.Section.{Section};
 
@@ -127,9 +128,9 @@ impl Table {
 pub fn table_of(file: &[u8], headers: Headers) -> Result<Table, ImageFault>
     requires short { length file.now ≤ 2 ^ 31 }
     requires pe { IsPe file.now headers }
-    ensures read { IfOk result (λ table. HasSections file.now headers (sections_of file.now table)) }
+    ensures read { IfOk result (λ table. ReadsSections file.now headers (Ok (sections_of file.now table))) }
     ensures table { IfOk result (IsTable file.now) }
-    ensures fault { IfErr result (IsImageFault file.now) }
+    ensures fault { IfErr result (FaultOf (ReadsSections file.now headers)) }
 {
     let table = Table {
         place: headers.table(),

@@ -2,7 +2,8 @@
 
 ghost use Rattle.std.specs.Prelude.{◌≤◌, length};
 
-use crate::{Body, BodyCause, BodyFault, Op, decode, next};
+use crate::{Body, BodyCause, BodyFault, decode};
+use cil_instruction::Op;
 use dc_base::{Or, Token};
 use std::alloc::Global;
 use std::process::Abort;
@@ -285,52 +286,6 @@ fn operand_of(op: Op) -> (Option<i64>, usize) {
         Op::Switch => (Some(2), 2),
         _ if BRANCHES.contains(&op) => (None, 1),
         _ => (None, 0),
-    }
-}
-
-// The opcodes of the standard that aren't taken, of one byte and behind the prefix.
-const LEFT_OUT_ALONE: [u8; 32] = [
-    0x01, 0x22, 0x23, 0x27, 0x29, 0x4D, 0x4E, 0x4F, 0x56, 0x57, 0x6B, 0x6C, 0x70, 0x76, 0x81, 0x8A,
-    0x8B, 0x97, 0x98, 0x99, 0x9B, 0xA0, 0xA1, 0xC2, 0xC3, 0xC6, 0xD0, 0xD3, 0xD4, 0xD5, 0xDF, 0xE0,
-];
-
-const LEFT_OUT_BEHIND: [u8; 14] = [
-    0x00, 0x0F, 0x11, 0x12, 0x13, 0x14, 0x15, 0x16, 0x17, 0x18, 0x19, 0x1C, 0x1D, 0x1E,
-];
-
-#[test]
-fn other_opcodes_are_left_out_or_bad(rt: HostRuntime) {
-    for byte in 0..=255u8 {
-        let alone = u16::from(byte);
-        let is_left_out = LEFT_OUT_ALONE.contains(&byte);
-        let bytes = [byte, 0, 0, 0, 0, 0, 0, 0, 0];
-        assert!(rt;
-            byte == 0xFE || is_refused(&bytes, alone, is_left_out),
-            "{byte}"
-        );
-        let behind = 0xFE00 + u16::from(byte);
-        let is_left_out = LEFT_OUT_BEHIND.contains(&byte);
-        assert!(rt;
-            is_refused(&[0xFE, byte, 0, 0, 0, 0], behind, is_left_out),
-            "{behind}"
-        );
-    }
-}
-
-// Whether `next` refuses just an opcode that no instruction has, with the cause that is due.
-fn is_refused(bytes: &[u8], code: u16, is_left_out: bool) -> bool
-    requires { length bytes.now ≤ 16 }
-{
-    match next(bytes, 0) {
-        Ok(_) => !is_left_out,
-        Err(BodyFault { cause, at }) => {
-            at == 0
-                && match cause {
-                    BodyCause::OutOfProfile(refused) => is_left_out && refused == code,
-                    BodyCause::BadOpcode(refused) => !is_left_out && refused == code,
-                    _ => false,
-                }
-        }
     }
 }
 

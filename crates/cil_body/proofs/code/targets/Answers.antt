@@ -2,7 +2,7 @@ use Rattle.std.proofs.Common.{◌≡◌, ◌<◌, ◌≤◌, ℤ, pos, length, r
 use Rattle.std.specs.Int.RustNames.{FitsSigned}
 use Rattle.std.proofs.lemmas.Int.{to_z-of_z}
 use Rattle.cil_body.specs.Code.{jumps_by, HasAim, IsTarget}
-use Rattle.cil_body.proofs.InstructionFacts.{instruction_at-within}
+use Rattle.cil_instruction.proofs.Consequences.{stands_within}
 use Rattle.cil_body.proofs.JumpFacts.{instruction_at-cases, instruction_at-fits, targets-more, targets-all}
 use Rattle.cil_body.proofs.code.targets.Goals as goal
 
@@ -14,7 +14,7 @@ jump-requires-clause-there c = instruction_at-cases c.args.bytes.now c.args.foun
 
 pub target-requires-clause-short : goal.target-requires-clause-short
 target-requires-clause-short c =
-    let within = instruction_at-within c.args.bytes.now c.args.found c.requires.read in
+    let within = stands_within c.args.bytes.now c.args.found c.requires.read in
     omega arith
 
 pub target-requires-clause-near : goal.target-requires-clause-near

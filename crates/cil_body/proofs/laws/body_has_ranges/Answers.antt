@@ -1,5 +1,5 @@
-use Rattle.cil_body.proofs.Ranges.{ranges_of}
+use Rattle.cil_body.proofs.Consequences.{body_has_ranges}
 use Rattle.cil_body.proofs.laws.body_has_ranges.Goals as goal
 
 pub returns : goal.returns
-returns c = ranges_of
+returns c = body_has_ranges

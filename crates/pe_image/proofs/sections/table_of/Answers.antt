@@ -1,19 +1,18 @@
-use Rattle.std.proofs.Common.{rules, add-one}
-use Rattle.pe_image.specs.Table.{sections_from}
-use Rattle.pe_image.proofs.Tables.{sections_more, length-sections_from}
+use Rattle.std.proofs.Common.{refl, subst, sym, arith}
+use Rattle.pe_image.specs.Sections.{IsSection}
+use Rattle.pe_image.proofs.Tables.{length-sections_from, get_or-sections_from}
 use Rattle.pe_image.proofs.sections.table_of.Goals as goal
 
 pub returns-then-not-is_section-clause-fault : goal.returns-then-not-is_section-clause-fault
 returns-then-not-is_section-clause-fault c =
-    let front = sections_from c.args.file.now c.table.result c.loop-i.i in
-    let len = length-sections_from c.args.file.now c.table.result c.loop-i.i in
-    (c.args.headers, c.requires.pe, front, rw (← c.table.ensures) c.loop-i.invariant, rw len (search rules), rw len (search rules), search rules)
-
-pub loop-i-preserved : goal.loop-i-preserved
-loop-i-preserved c =
-    rw (add-one c.loop-i.i)
-    (sections_more c.args.file.now c.table.result c.loop-i.i c.loop-i.invariant (search rules))
+    rw (← c.table.ensures)
+    (c.loop-i.i, omega (arith, c.loop-i-test.true, c.from-i-end.ensures), (λ j less. (_, c.loop-i.invariant j less)), (c.if-not-is_section.ensures.no, refl))
 
 pub returns-clause-read : goal.returns-clause-read
 returns-clause-read c =
-    record { pe = c.requires.pe; count = length-sections_from _ _ _; table = search rules }
+    rw (← c.table.ensures) (
+      length-sections_from _ _ _,
+      λ k d less.
+          subst (IsSection c.args.file.now _) (sym (get_or-sections_from c.args.file.now c.table.result c.args.headers.section_count k d less))
+          (c.loop-i.invariant k (omega (arith, less, c.loop-i-test.false, c.from-i-end.ensures))),
+    )

@@ -1,8 +1,0 @@
-use Rattle.std.proofs.Common.{ℕ, ◌<◌, length, get_or}
-use Rattle.cil_body.specs.declared.region.Span.{Span}
-use Rattle.cil_body.specs.Region.{AreLaminar}
-use Rattle.cil_body.proofs.nesting.crossing.Given as goal
-
-abbrev pub invariant-loop-i : goal.invariant-loop-i
-invariant-loop-i l =
-    (a b : ℕ) (d : Span) → a < l.i → a < b → b < length l.spans → AreLaminar (get_or l.spans a d) (get_or l.spans b d)

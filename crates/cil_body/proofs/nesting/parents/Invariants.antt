@@ -1,5 +1,0 @@
-use Rattle.cil_body.proofs.ParentTable.{AreParentsUpto}
-use Rattle.cil_body.proofs.nesting.parents.Given as goal
-
-abbrev pub invariant-loop-k : goal.invariant-loop-k
-invariant-loop-k l = AreParentsUpto l.spans l.nodes l.tries l.count l.k l.parents.items

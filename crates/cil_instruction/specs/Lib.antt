@@ -1,0 +1,5 @@
+pub mod Opcode
+pub mod Standard
+pub mod LeftOut
+pub mod Instruction
+pub mod Laws

@@ -1,0 +1,10 @@
+pub mod Cut
+pub mod Walk
+pub mod Break
+pub mod Operands
+pub mod Fields
+pub mod SameCut
+pub mod Reading
+pub mod Parts
+pub mod Above
+pub mod Consequences

@@ -1,0 +1,4 @@
+pub mod Row
+pub mod Cut
+pub mod Lone
+pub mod Laws

@@ -1,0 +1,4 @@
+pub mod Region
+pub mod Laid
+pub mod Tries
+pub mod Laws

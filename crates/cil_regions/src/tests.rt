@@ -1,0 +1,4 @@
+// The regions of bodies.
+
+mod bodies;
+mod regions;

@@ -1,0 +1,2 @@
+mod Aims
+mod Numbers

@@ -1,0 +1,5 @@
+pub mod Operand
+pub mod Instruction
+pub mod Flow
+pub mod Slots
+pub mod Code

@@ -1,0 +1,9 @@
+pub mod Types
+pub mod Names
+pub mod Members
+pub mod Core
+pub mod Unique
+pub mod Bases
+pub mod Implemented
+pub mod Table
+pub mod Lookups

@@ -1,0 +1,4 @@
+pub mod Assemblies
+pub mod Types
+pub mod Members
+pub mod Properties

@@ -1,0 +1,10 @@
+pub mod Sets
+pub mod Basics
+pub mod Bind
+pub mod Either
+pub mod Limited
+pub mod Turns
+pub mod Whole
+pub mod Deeper
+pub mod Differences
+pub mod Readings

@@ -1,0 +1,7 @@
+pub mod Kinds
+pub mod Grammar
+pub mod Exact
+pub mod Reads
+pub mod Whole
+pub mod Levels
+pub mod Differences

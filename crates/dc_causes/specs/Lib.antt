@@ -1,0 +1,5 @@
+pub mod First
+pub mod Step
+pub mod Causes
+pub mod Rows
+pub mod Answer
