@@ -15,5 +15,5 @@ fn main(rt: HostRuntime) -> ExitCode {
         }
         Err(_) => Status::NoMemory,
     };
-    ExitCode::from(status.code())
+    status.exit_code()
 }

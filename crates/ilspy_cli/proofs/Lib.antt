@@ -1,8 +1,11 @@
+pub mod Lists
 pub mod Progress
-pub mod DueOfFile
 pub mod SameDue
+pub mod OneRequest
+pub mod OneFiles
 pub mod FormFacts
-pub mod OneName
 pub mod OneShow
 pub mod OneDue
 pub mod Wrote
+pub mod DueOfFiles
+pub mod Taken

@@ -1,95 +1,84 @@
--- Where files are told and no fault of the shelf is counted, one status and one text are due.
-use Rattle.std.proofs.Common.{◌≡◌, inl, inr, ℕ, List, length, Option, Some, option_map, refl, sym, ap, ◌∙◌, subst, arith}
-use Rattle.cil_lone.proofs.Consequences.{has_one_code as one_code, has_no_fault as no_fault, has_one_fault as one_fault}
+-- Where files are told and no read failed, one status and one text are due.
+use Rattle.std.proofs.Common.{◌≡◌, ℕ, List, [], ◌∷◌, Option, Some, sym, ap, ◌∙◌, subst}
+use Rattle.cil_body.specs.Laws.{HasOneCode, HasNoFault, HasOneFault}
+use Rattle.pe_image.specs.Laws as image
 use Rattle.dc_base.specs.Outside.{HasRisen}
-use Rattle.ilspy_cli.specs.declared.status.Status.{Status}
-use Rattle.ilspy_cli.specs.declared.status.Status.TheVariants.{Done, Refused, Usage, ReadFault, WriteFault, NoMemory, No}
-use Rattle.ilspy_cli.specs.declared.words.Command.{Command}
-use Rattle.ilspy_cli.specs.declared.words.Command.TheVariants.{Body, Show}
-use Rattle.ilspy_cli.proofs.OneName.{one_name}
-use Rattle.ilspy_cli.proofs.SameDue.{SameDue}
-use Rattle.ilspy_cli.proofs.OneShow.{one_of_show}
-use Rattle.ilspy_cli.specs.Lines.{too_big_line, fault_line}
 use Rattle.ilspy_body.specs.Flat.{flat_of}
 use Rattle.ilspy_body.specs.Layout.{text_of}
-use Rattle.ilspy_cli.specs.Outcome.{limit_of, Names, IsBodyDue, IsFileDue, IsOfFile, IsTooBig, IsUsage, IsDue}
+use Rattle.ilspy_cli.specs.declared.status.Status.{Status}
+use Rattle.ilspy_cli.specs.declared.words.Request.{Request}
+use Rattle.ilspy_cli.specs.declared.words.Request.TheVariants.{Body, Show}
+use Rattle.ilspy_cli.specs.Lines.{too_big_line, fault_line}
+use Rattle.ilspy_cli.specs.Files.{Shelved, AreRead, IsNext, files_of, shelved}
+use Rattle.ilspy_cli.specs.Outcome.{IsBodyDue, written, refused, IsRequestDue, IsDue, usage, too_big, unread, of_files}
+use Rattle.ilspy_cli.proofs.SameDue.{SameDue}
+use Rattle.ilspy_cli.proofs.OneRequest.{one_request}
+use Rattle.ilspy_cli.proofs.OneFiles.{one_contents, not_both, one_too_long}
+use Rattle.ilspy_cli.proofs.OneShow.{one_of_show}
 
--- a file has one due text
-one_of_body : (file : List ℕ) (s s' : Status) (t t' : List ℕ) → IsBodyDue file s t → IsBodyDue file s' t' → SameDue s s' t t'
-one_of_body file Done Done t t' p q = record { status = refl; text = p.2 ∙ ap (λ code. text_of (flat_of code)) (one_code file p.0 q.0 p.1 q.1) ∙ sym q.2 }
-one_of_body file Done Refused t t' p q = absurd (no_fault file p.0 q.0 p.1 q.1)
-one_of_body file Refused Done t t' p q = absurd (no_fault file q.0 p.0 q.1 p.1)
-one_of_body file Refused Refused t t' p q = record { status = refl; text = p.2 ∙ ap fault_line (one_fault file p.0 q.0 p.1 q.1) ∙ sym q.2 }
-one_of_body file Done Usage t t' p q = absurd q
-one_of_body file Done ReadFault t t' p q = absurd q
-one_of_body file Done WriteFault t t' p q = absurd q
-one_of_body file Done NoMemory t t' p q = absurd q
-one_of_body file Done No t t' p q = absurd q
-one_of_body file Refused Usage t t' p q = absurd q
-one_of_body file Refused ReadFault t t' p q = absurd q
-one_of_body file Refused WriteFault t t' p q = absurd q
-one_of_body file Refused NoMemory t t' p q = absurd q
-one_of_body file Refused No t t' p q = absurd q
-one_of_body file Usage s' t t' p q = absurd p
-one_of_body file ReadFault s' t t' p q = absurd p
-one_of_body file WriteFault s' t t' p q = absurd p
-one_of_body file NoMemory s' t t' p q = absurd p
-one_of_body file No s' t t' p q = absurd p
+-- a file is a lone body in one way or has one fault, and is an image in one way or has one fault
+pub record Readings : Type 0 where
+  pub one_code : HasOneCode
+  pub no_fault : HasNoFault
+  pub one_fault : HasOneFault
+  pub one_image : image.HasOneReading
+  pub no_image_fault : image.HasNoFault
+  pub one_image_fault : image.HasOneFault
 
--- a file has one due text, by the command
-one_of_file : (asked : Command) (file : List ℕ) (s s' : Status) (t t' : List ℕ) → IsFileDue asked file s t → IsFileDue asked file s' t' → SameDue s s' t t'
-one_of_file Body file s s' t t' p q = one_of_body file s s' t t' p q
-one_of_file Show file s s' t t' p q = one_of_show file s s' t t' p q
+module _ (laws : Readings) where
+  -- a file has one due text
+  one_of_body : (file : List ℕ) (s s' : Status) (t t' : List ℕ) → IsBodyDue file s t → IsBodyDue file s' t' → SameDue s s' t t'
+  one_of_body file s s' t t' (written c p e x) (written d q f y) =
+      record { status = e ∙ sym f; text = x ∙ ap (λ code. text_of (flat_of code)) (laws.one_code file c d p q) ∙ sym y }
+  one_of_body file s s' t t' (written c p e x) (refused d q f y) = absurd (laws.no_fault file c d p q)
+  one_of_body file s s' t t' (refused c p e x) (written d q f y) = absurd (laws.no_fault file d c q p)
+  one_of_body file s s' t t' (refused c p e x) (refused d q f y) =
+      record { status = e ∙ sym f; text = x ∙ ap fault_line (laws.one_fault file c d p q) ∙ sym y }
 
-module _ (files : List ℕ → Option (List ℕ)) (words : List (List ℕ)) where
-  -- why a status and a text are due
-  data Why (s : Status) (t : List ℕ) : Type 0 where
-    of_file : IsOfFile (Some files) words s t → Why s t
-    too_big : s ≡ Refused → IsTooBig (Some files) words t → Why s t
-    usage : s ≡ Usage → IsUsage words t → Why s t
+  -- a request has one due text for the bytes of its files
+  one_of_request : (r : Request) (contents : List (List ℕ)) (s s' : Status) (t t' : List ℕ) → IsRequestDue r contents s t → IsRequestDue r contents s' t' → SameDue s s' t t'
+  one_of_request (Body name) (file ∷ []) s s' t t' p q = one_of_body file s s' t t' p q
+  one_of_request (Show name) (assembly ∷ []) s s' t t' p q =
+      one_of_show laws.one_image laws.no_image_fault laws.one_image_fault assembly s s' t t' p q
+  one_of_request (Body name) [] s s' t t' p q = absurd p
+  one_of_request (Body name) (a ∷ b ∷ more) s s' t t' p q = absurd p
+  one_of_request (Show name) [] s s' t t' p q = absurd p
+  one_of_request (Show name) (a ∷ b ∷ more) s s' t t' p q = absurd p
 
-  why : (before now : ℕ) (last : Option (List ℕ)) (s : Status) (t : List ℕ) → (HasRisen before now → ⊥) → IsDue (Some files) before now last words s t → Why s t
-  why before now last Done t h p = of_file p.0
-  why before now last Refused t h p = elim p.0 [ inl big ↦ too_big refl big | inr file ↦ of_file file ]
-  why before now last Usage t h p = usage refl p.0
-  why before now last ReadFault t h p = absurd (h p.risen)
-  why before now last WriteFault t h p = absurd p
-  why before now last NoMemory t h p = absurd p
-  why before now last No t h p = absurd p
+  module _ (files : List ℕ → Option (List ℕ)) (before now : ℕ) (last_before last_now : Option (List ℕ)) (still : HasRisen before now → ⊥) (words : List (List ℕ)) where
+    abbrev shelf : Shelved
+    shelf = shelved (Some files) before now last_before last_now
 
-  -- one file is named, by one command
-  one_file : (a b : List ℕ) (p : Names (Some files) words a) (q : Names (Some files) words b) → (p.asked ≡ q.asked) × (a ≡ b)
-  one_file a b p q =
-      let same = one_name words p.asked q.asked p.name q.name p.words_in_form q.words_in_form in
-      let e : Some a ≡ Some b = sym p.is_file ∙ ap files same.name ∙ q.is_file in
-      (same.command, cc)
+    same_due : (s s' : Status) (t t' : List ℕ) → IsDue shelf words s t → IsDue shelf words s' t' → SameDue s s' t t'
+    same_due s s' t t' (usage a n e x) (usage b m f y) = record { status = e ∙ sym f; text = x ∙ sym y }
+    same_due s s' t t' (usage a n e x) (too_big r file b asks next long f y) = absurd (n r asks)
+    same_due s s' t t' (usage a n e x) (unread r file b asks next f y) = absurd (n r asks)
+    same_due s s' t t' (usage a n e x) (of_files r contents b asks read due) = absurd (n r asks)
+    same_due s s' t t' (too_big r file a asks next long e x) (usage b m f y) = absurd (m r asks)
+    same_due s s' t t' (too_big r file a asks next long e x) (too_big q other b asks' next' long' f y) =
+        let same = one_request words r q asks asks' in
+        let here : IsNext (Some files) (files_of q) file = subst (λ r. IsNext (Some files) (files_of r) file) same next in
+        record { status = e ∙ sym f; text = x ∙ ap (λ w. too_big_line w.name) (one_too_long files (files_of q) file other here next' long long') ∙ sym y }
+    same_due s s' t t' (too_big r file a asks next long e x) (of_files q contents b asks' read due) =
+        let same = one_request words r q asks asks' in
+        absurd (not_both files (files_of q) file contents (subst (λ r. IsNext (Some files) (files_of r) file) same next) long read)
+    same_due s s' t t' (of_files r contents a asks read due) (usage b m f y) = absurd (m r asks)
+    same_due s s' t t' (of_files r contents a asks read due) (too_big q other b asks' next' long' f y) =
+        let same = one_request words q r asks' asks in
+        absurd (not_both files (files_of r) other contents (subst (λ r. IsNext (Some files) (files_of r) other) same next') long' read)
+    same_due s s' t t' (of_files r contents a asks read due) (of_files q others b asks' read' due') =
+        let same = one_request words r q asks asks' in
+        let here : AreRead (Some files) (files_of q) contents = subst (λ r. AreRead (Some files) (files_of r) contents) same read in
+        let all = one_contents files (files_of q) contents others here read' in
+        one_of_request q others s s' t t' (subst (λ c. IsRequestDue q c s t) all (subst (λ r. IsRequestDue r contents s t) same due)) due'
+    same_due s s' t t' (unread r file a asks next e x) q = absurd (still a.risen)
+    same_due s s' t t' (too_big r file a asks next long e x) (unread q other b asks' next' f y) = absurd (still b.risen)
+    same_due s s' t t' (of_files r contents a asks read due) (unread q other b asks' next' f y) = absurd (still b.risen)
 
-  -- a file is too long or not
-  not_both : (a t : List ℕ) → Names (Some files) words a → IsTooBig (Some files) words t → ⊥
-  not_both a t p q =
-      let same = one_name words p.asked q.asked p.name q.name p.words_in_form q.words_in_form in
-      let e : Some (length a) ≡ Some q.bytes = sym (ap (option_map length) p.is_file) ∙ ap (λ n. option_map length (files n)) same.name ∙ q.is_length in
-      let n : length a ≡ q.bytes = cc in
-      let l : limit_of p.asked ≡ limit_of q.asked = ap limit_of same.command in
-      omega (arith, p.short, q.long)
-
-  same_why : (s s' : Status) (t t' : List ℕ) → Why s t → Why s' t' → SameDue s s' t t'
-  same_why s s' t t' (of_file p) (of_file q) =
-      let same = one_file p.file q.file p.named q.named in
-      one_of_file q.named.asked q.file s s' t t' (subst (λ a. IsFileDue a q.file s t) same.0 (subst (λ f. IsFileDue p.named.asked f s t) same.1 p.due)) q.due
-  same_why s s' t t' (of_file p) (too_big e q) = absurd (not_both p.file t' p.named q)
-  same_why s s' t t' (of_file p) (usage e q) = absurd (q.out_of_form p.named.asked p.named.name p.named.words_in_form)
-  same_why s s' t t' (too_big e p) (of_file q) = absurd (not_both q.file t q.named p)
-  same_why s s' t t' (too_big e p) (too_big f q) = record {
-    status = e ∙ sym f;
-    text = p.due ∙ ap too_big_line (one_name words p.asked q.asked p.name q.name p.words_in_form q.words_in_form).name ∙ sym q.due;
-  }
-  same_why s s' t t' (too_big e p) (usage f q) = absurd (q.out_of_form p.asked p.name p.words_in_form)
-  same_why s s' t t' (usage e p) (of_file q) = absurd (p.out_of_form q.named.asked q.named.name q.named.words_in_form)
-  same_why s s' t t' (usage e p) (too_big f q) = absurd (p.out_of_form q.asked q.name q.words_in_form)
-  same_why s s' t t' (usage e p) (usage f q) = record { status = e ∙ sym f; text = p.due ∙ sym q.due }
-
--- one status and one text are due
-pub one_due : (files : List ℕ → Option (List ℕ)) (words : List (List ℕ)) (told : Option (List ℕ → Option (List ℕ))) (before now : ℕ) (last : Option (List ℕ)) (s s' : Status) (t t' : List ℕ) → told ≡ Some files → (HasRisen before now → ⊥) → IsDue told before now last words s t → IsDue told before now last words s' t' → SameDue s s' t t'
-one_due files words told before now last s s' t t' e h p q =
-    same_why files words s s' t t' (why files words before now last s t h (subst (λ f. IsDue f before now last words s t) e p)) (why files words before now last s' t' h (subst (λ f. IsDue f before now last words s' t') e q))
+  -- one status and one text are due
+  pub one_due : (shelf : Shelved) (files : List ℕ → Option (List ℕ)) → shelf.files ≡ Some files → (HasRisen shelf.before shelf.now → ⊥)
+      → (words : List (List ℕ)) (s s' : Status) (t t' : List ℕ) → IsDue shelf words s t → IsDue shelf words s' t' → SameDue s s' t t'
+  one_due over files told still words s s' t t' p q =
+      same_due files over.before over.now over.last_before over.last_now still words s s' t t'
+      (subst (λ f. IsDue (shelved f over.before over.now over.last_before over.last_now) words s t) told p)
+      (subst (λ f. IsDue (shelved f over.before over.now over.last_before over.last_now) words s' t') told q)

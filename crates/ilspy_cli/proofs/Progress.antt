@@ -3,16 +3,20 @@ use Rattle.std.proofs.Common.{◌≡◌, ℕ, ◌≤◌, ◌+◌, List, ◌++◌
 use Rattle.std.proofs.lemmas.List.{take-append-drop, take-append-le, length-take, length-drop}
 use Rattle.std.proofs.Math.Seq.{take-add}
 use Rattle.dc_base.specs.Outside.{Puts, CountsPut, HasRisen}
-use Rattle.ilspy_cli.specs.Outcome.{Adds, IsWritten, IsCutShort}
+use Rattle.ilspy_cli.specs.Outcome.{sunk, IsWritten, IsCutShort}
 
 -- the first `done` bytes of the text are written, and the count of faults stands where it stood
 pub record Progress (old new : Option (List ℕ)) (before now : ℕ) (text : List ℕ) (done : ℕ) : Type 0 where
   pub within : done ≤ length text
-  pub written : IsWritten old new before now (take done text)
+  pub written : IsWritten (sunk old new before now) (take done text)
 
 -- a front of a front is a front of the whole
 take-take : (n size : ℕ) (xs : List ℕ) → n ≤ length (take size xs) → take n (take size xs) ≡ take n xs
 take-take n size xs h = sym (take-append-le n (take size xs) (drop size xs) h) ∙ ap (take n) (take-append-drop size xs)
+
+-- the bytes before and now, where they are told, with these added
+abbrev Adds : Option (List ℕ) → Option (List ℕ) → List ℕ → Type 0
+Adds old new text = new ≡ option_map (λ bytes. bytes ++ text) old
 
 -- two pieces added one after the other
 adds_both : (old mid new : Option (List ℕ)) (a b : List ℕ) → Adds old mid a → Adds mid new b → Adds old new (a ++ b)
@@ -34,7 +38,7 @@ further old mid new before at now text piece done n p next put count =
     }
 
 -- a put that failed leaves a front of the text
-pub cut_short : (old mid new : Option (List ℕ)) (before at now : ℕ) (text : List ℕ) (done : ℕ) → Progress old mid before at text done → new ≡ mid → HasRisen at now → IsCutShort old new before now text
+pub cut_short : (old mid new : Option (List ℕ)) (before at now : ℕ) (text : List ℕ) (done : ℕ) → Progress old mid before at text done → new ≡ mid → HasRisen at now → IsCutShort (sunk old new before now) text
 cut_short old mid new before at now text done p put count = record {
   front = take done text;
   rest = drop done text;

@@ -1,37 +1,46 @@
 -- What was written for a lone body means what the body means.
-use Rattle.std.proofs.Common.{subst, length, ◌≤◌, ℕ, List, Option}
-use Rattle.ilspy_cli.specs.declared.status.Status.{Status}
-use Rattle.ilspy_cli.specs.declared.status.Status.TheVariants.{Done, Refused, Usage, ReadFault, WriteFault, NoMemory, No}
-use Rattle.ilspy_cli.specs.Outcome.{Files, IsDue, IsFileDue, IsWritten, MeansTheSame, limit_of}
-use Rattle.ilspy_cli.specs.declared.words.Command.TheVariants.{Body}
-use Rattle.dc_base.specs.Outside.{IsFile}
-use Rattle.ilspy_cli.proofs.OneName.{one_name}
-use Rattle.cil_lone.specs.Cut.{Placed}
-use Rattle.cil_lone.specs.Lone.{IsLone}
+use Rattle.std.proofs.Common.{◌≡◌, ◌≤◌, ℕ, List, [], ◌∷◌, length, sym, subst, ◌∙◌}
+use Rattle.cil_body.specs.Cut.{Placed}
+use Rattle.cil_body.specs.Lone.{IsLone}
 use Rattle.ilspy_body.specs.Flat.{flat_of}
 use Rattle.ilspy_body.specs.Layout.{text_of}
 use Rattle.ilspy_body.specs.Theorem.{LoneBodyMeansTheSame}
+use Rattle.ilspy_cli.specs.declared.status.Status.{Status}
+use Rattle.ilspy_cli.specs.declared.status.Status.TheVariants.{Done, Refused, ReadFault}
+use Rattle.ilspy_cli.specs.declared.words.Request.TheVariants.{Body}
+use Rattle.ilspy_cli.specs.Files.{Files, Shelved, AreRead, files_of}
+use Rattle.ilspy_cli.specs.Outcome.{written, refused, IsRequestDue, IsDue, usage, too_big, unread, of_files, Sunk, IsWritten, WroteTheSame, MeansTheSame}
+use Rattle.ilspy_cli.proofs.OneRequest.{one_request}
 
 -- the law of the crate below
 abbrev pub TextMeansTheSame : Type 0
 TextMeansTheSame = (file : List ℕ) (code : List Placed) → length file ≤ 64 → IsLone file code → LoneBodyMeansTheSame file (text_of (flat_of code))
 
-pub wrote_the_same : TextMeansTheSame → (files : Files) (before now : ℕ) (last : Option (List ℕ)) (words : List (List ℕ)) (status : Status) (text : List ℕ) (old new : Option (List ℕ)) (b n : ℕ) → IsDue files before now last words status text → IsWritten old new b n text → MeansTheSame files words old new status
-wrote_the_same law files before now last words Done text old new b n due written = λ name words_in_form.
-    let of_file = due.0 in
-    let same = one_name words of_file.named.asked Body of_file.named.name name of_file.named.words_in_form words_in_form in
-    let lone = subst (λ a. IsFileDue a of_file.file Done text) same.command of_file.due in
-    let short = subst (λ a. length of_file.file ≤ limit_of a) same.command of_file.named.short in
-    record {
-      file = of_file.file;
-      is_file = subst (λ n. IsFile files n of_file.file) same.name of_file.named.is_file;
-      text = text;
-      adds = written.adds;
-      same = rw lone.2 (law of_file.file lone.0 short lone.1);
-    }
-wrote_the_same law files before now last words Refused text old new b n due written = tt
-wrote_the_same law files before now last words Usage text old new b n due written = tt
-wrote_the_same law files before now last words ReadFault text old new b n due written = tt
-wrote_the_same law files before now last words WriteFault text old new b n due written = tt
-wrote_the_same law files before now last words NoMemory text old new b n due written = tt
-wrote_the_same law files before now last words No text old new b n due written = tt
+refused_is_not_done : (status : Status) → status ≡ Refused → status ≡ Done → ⊥
+refused_is_not_done status e f = let same : Refused ≡ Done = sym e ∙ f in cc
+
+unread_is_not_done : (status : Status) → status ≡ ReadFault → status ≡ Done → ⊥
+unread_is_not_done status e f = let same : ReadFault ≡ Done = sym e ∙ f in cc
+
+module _ (law : TextMeansTheSame) where
+  of_body : (files : Files) (name : List ℕ) (contents : List (List ℕ)) (status : Status) (text : List ℕ) (sink : Sunk) → AreRead files (files_of (Body name)) contents
+      → IsRequestDue (Body name) contents status text → IsWritten sink text → status ≡ Done → WroteTheSame files name sink
+  of_body files name [] status text sink read due w done = absurd read
+  of_body files name (a ∷ b ∷ more) status text sink read due w done = absurd due
+  of_body files name (file ∷ []) status text sink read (written code lone e x) w done = record {
+    file = file;
+    is_file = read.0;
+    text = text;
+    adds = w.adds;
+    same = subst (LoneBodyMeansTheSame file) (sym x) (law file code read.1 lone);
+  }
+  of_body files name (file ∷ []) status text sink read (refused fault is e x) w done = absurd (refused_is_not_done status e done)
+
+  pub wrote_the_same : (shelf : Shelved) (words : List (List ℕ)) (status : Status) (text : List ℕ) (sink : Sunk) → IsDue shelf words status text → IsWritten sink text → MeansTheSame shelf.files words sink status
+  wrote_the_same shelf words status text sink (usage a n e x) w = λ done name asks. absurd (n (Body name) asks)
+  wrote_the_same shelf words status text sink (too_big r file a asks next long e x) w = λ done name asks'. absurd (refused_is_not_done status e done)
+  wrote_the_same shelf words status text sink (unread r file a asks next e x) w = λ done name asks'. absurd (unread_is_not_done status e done)
+  wrote_the_same shelf words status text sink (of_files r contents a asks read due) w = λ done name asks'.
+      let same = one_request words r (Body name) asks asks' in
+      of_body shelf.files name contents status text sink
+      (subst (λ r. AreRead shelf.files (files_of r) contents) same read) (subst (λ r. IsRequestDue r contents status text) same due) w done

@@ -3,5 +3,7 @@ pub mod Lines
 pub mod Status
 pub mod Escape
 pub mod Show
+pub mod Files
+pub mod Taking
 pub mod Outcome
 pub mod Outside

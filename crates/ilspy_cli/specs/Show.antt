@@ -13,7 +13,7 @@ use Rattle.cli_metadata.specs.Metadata.{Contents, metadata_of, rows_of, row_of, 
 use Rattle.ilspy_cli.specs.Escape.{escaped}
 use Rattle.ilspy_cli.specs.Lines.{line_end, bad_image_line, bad_metadata_line, bad_name_line}
 use Rattle.ilspy_cli.specs.declared.status.Status.{Status}
-use Rattle.ilspy_cli.specs.declared.status.Status.TheVariants.{Done, Refused, Usage, ReadFault, WriteFault, NoMemory, No}
+use Rattle.ilspy_cli.specs.declared.status.Status.TheVariants.{Done, Refused}
 
 -- the numbers of the tables (ECMA-335 II.22.37, 15, 26, 34 and 2)
 abbrev pub type_table : ℕ
@@ -90,11 +90,6 @@ pub data IsNotShown (file text : List ℕ) : Type 0 where
   bad_name : (contents : Contents) (cause : MetaCause) → HasContents file contents → HasNoName contents cause → text ≡ bad_name_line cause → IsNotShown file text
 
 -- what is due for a file that is to be shown
-abbrev pub IsShowDue : List ℕ → Status → List ℕ → Type 0
-IsShowDue file Done text = IsShown file text
-IsShowDue file Refused text = IsNotShown file text
-IsShowDue file Usage text = ⊥
-IsShowDue file ReadFault text = ⊥
-IsShowDue file WriteFault text = ⊥
-IsShowDue file NoMemory text = ⊥
-IsShowDue file No text = ⊥
+pub data IsShowDue (file : List ℕ) (status : Status) (text : List ℕ) : Type 0 where
+  shown : IsShown file text → status ≡ Done → IsShowDue file status text
+  not_shown : IsNotShown file text → status ≡ Refused → IsShowDue file status text

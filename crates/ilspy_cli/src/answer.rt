@@ -1,21 +1,18 @@
 // What is due for some words.
 
-ghost use Rattle.std.specs.Prelude.{◌≡◌, ◌≤◌, length, IfOk};
-ghost use Rattle.ilspy_cli.specs.Outcome.{IsDue, IsFileDue, IsBodyDue, limit_of};
+ghost use Rattle.std.specs.Prelude.{◌≡◌, ◌≤◌, length, map, IfOk};
+ghost use Rattle.ilspy_cli.specs.Files.{AreWithin, files_of, shelved};
+ghost use Rattle.ilspy_cli.specs.Taking.{IsUntakenDue};
+ghost use Rattle.ilspy_cli.specs.Outcome.{HasNotRisen, IsDue, IsRequestDue, IsBodyDue};
 
 use crate::shown::show;
-use crate::words::{Command, asked};
+use crate::taking::{Untaken, take_all};
+use crate::words::{Request, asked};
 use crate::{Status, lines};
-use cil_lone::lone;
-use dc_base::{NoMemory, Or, Shelf, TakeFault, Text};
+use cil_body::lone;
+use dc_base::{NoMemory, Or, Shelf, Text};
 use ilspy_body::{code_can_be_flattened, flat, text};
 use std::alloc::Global;
-
-/// The most bytes that the file of a lone body may have.
-pub const BODY_LIMIT: u64 = 64;
-
-/// The most bytes that an assembly may have.
-pub const ASSEMBLY_LIMIT: u64 = 16_777_216;
 
 /// A status, and the text or the line that is due with it.
 #[derive(Debug, Drop)]
@@ -24,52 +21,60 @@ pub(crate) struct Answer {
     pub text: Text,
 }
 
-/// What is due for the words; it asks the shelf for the file that they name, once.
+/// What is due for the words; it asks the shelf for the files that they name, each once and in their order.
 pub(crate) fn answer_words<S: Shelf>(
     alloc: Global,
     words: &[Text],
     shelf: &mut S,
 ) -> Result<Answer, NoMemory>
-    ensures due { IfOk result (λ answer. IsDue (S.files shelf.old) (S.faults shelf.old) (S.faults shelf.new) (S.last shelf.new) words.now answer.status answer.text) }
+    ensures due { IfOk result (λ answer. IsDue (shelved (S.files shelf.old) (S.faults shelf.old) (S.faults shelf.new) (S.last shelf.old) (S.last shelf.new))
+        words.now answer.status answer.text) }
+    ensures last { HasNotRisen (S.faults shelf.old) (S.faults shelf.new) → S.last shelf.new ≡ S.last shelf.old }
     ensures never_falls { S.faults shelf.old ≤ S.faults shelf.new }
     ensures files { S.files shelf.new ≡ S.files shelf.old }
 {
-    let Some((command, name)) = asked(alloc, words)? else {
+    let Some(request) = asked(alloc, words)? else {
         return Ok(Answer {
             status: Status::Usage,
             text: lines::usage(alloc)?,
         });
     };
-    match shelf.take(alloc, &name, limit_of(command)) {
-        Ok(file) => answer_file(alloc, command, file.as_slice()),
+    let files = request.files(alloc)?;
+    match take_all(alloc, shelf, files.as_slice()) {
+        Ok(contents) => answer_request(alloc, &request, contents.as_slice()),
         Err(Or::NoMemory) => Err(NoMemory),
-        Err(Or::Fault(TakeFault::Longer(_))) => Ok(Answer {
+        Err(Or::Fault(untaken)) => answer_untaken(alloc, untaken),
+    }
+}
+
+// The line of a file that wasn't given.
+fn answer_untaken(alloc: Global, untaken: Untaken) -> Result<Answer, NoMemory>
+    ensures { IfOk result (λ answer. IsUntakenDue untaken.entry answer.status answer.text) }
+{
+    match untaken {
+        Untaken::TooBig(name) => Ok(Answer {
             status: Status::Refused,
-            text: lines::too_big(alloc, &name)?,
+            text: lines::too_big(alloc, name)?,
         }),
-        Err(Or::Fault(TakeFault::Failed)) => Ok(Answer {
+        Untaken::Unread(name) => Ok(Answer {
             status: Status::ReadFault,
-            text: lines::cannot_read(alloc, &name)?,
+            text: lines::cannot_read(alloc, name)?,
         }),
     }
 }
 
-fn limit_of(command: Command) -> u64
-    ensures { result ≡ limit_of command }
+// What is due for a request, by the bytes of its files.
+fn answer_request(
+    alloc: Global,
+    request: &Request,
+    contents: &[Vec<u8>],
+) -> Result<Answer, NoMemory>
+    requires { AreWithin (files_of request.now) (map (λ file. file.items) contents.now) }
+    ensures { IfOk result (λ answer. IsRequestDue request.now (map (λ file. file.items) contents.now) answer.status answer.text) }
 {
-    match command {
-        Command::Body => BODY_LIMIT,
-        Command::Show => ASSEMBLY_LIMIT,
-    }
-}
-
-fn answer_file(alloc: Global, command: Command, file: &[u8]) -> Result<Answer, NoMemory>
-    requires { length file.now ≤ limit_of command }
-    ensures { IfOk result (λ answer. IsFileDue command file.now answer.status answer.text) }
-{
-    match command {
-        Command::Body => answer_body(alloc, file),
-        Command::Show => show(alloc, file),
+    match request {
+        Request::Body { .. } => answer_body(alloc, contents[0].as_slice()),
+        Request::Show { .. } => show(alloc, contents[0].as_slice()),
     }
 }
 

@@ -2,6 +2,8 @@
 
 ghost use Rattle.std.specs.Prelude.{◌≡◌};
 
+use std::process::ExitCode;
+
 /// How a run ended. The process ends with the number of this (see [`Status::code`]).
 #[derive(Clone, Copy, Debug, PartialEq, Eq)]
 pub enum Status {
@@ -23,6 +25,7 @@ pub enum Status {
 
 impl Status {
     ghost use Rattle.std.specs.Prelude.{◌≡◌};
+    ghost use Rattle.std.specs.Process.{exit_status};
     ghost use Rattle.ilspy_cli.specs.Status.{code_of};
 
     /// The number that the process ends with.
@@ -38,5 +41,12 @@ impl Status {
             Status::NoMemory => 5,
             Status::No => 6,
         }
+    }
+
+    /// What `main` returns.
+    pub fn exit_code(self) -> ExitCode
+        ensures { exit_status result ≡ code_of self }
+    {
+        ExitCode::from(self.code())
     }
 }

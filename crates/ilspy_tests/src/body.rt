@@ -2,7 +2,7 @@
 
 ghost use Rattle.std.specs.Prelude.{◌≤◌, length};
 
-use cil_lone::lone;
+use cil_body::lone;
 use cil_meaning::{LoneState, LoneStepped, lone_step};
 use cs_meaning::lone_exec;
 use dc_base::{MemShelf, MemSink, NoMemory, OpenGate, Stack, Text};
@@ -105,6 +105,8 @@ fn a_file_that_is_no_lone_body_is_refused(rt: HostRuntime) -> Result<(), Fail> {
     for (file, line) in files {
         check(&rt, alloc, &words, file, Status::Refused, line)?;
     }
+    let longest = "refused: NotYet 06 at 1\n";
+    check(&rt, alloc, &words, &[0x06; 64], Status::Refused, longest)?;
     check(
         &rt,
         alloc,

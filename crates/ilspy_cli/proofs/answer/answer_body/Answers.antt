@@ -1,10 +1,14 @@
--- A lone body's code is what the flat form asks for.
-use Rattle.std.proofs.Common.{arith}
+-- The text of a lone body's flat form is due, or the line of its fault.
+use Rattle.std.proofs.Common.{ap, ◌∙◌, refl, rules}
+use Rattle.ilspy_body.specs.Flat.{flat_of}
+use Rattle.ilspy_body.specs.Layout.{text_of}
+use Rattle.ilspy_cli.specs.Outcome.{written, refused}
 use Rattle.ilspy_cli.proofs.answer.answer_body.Goals as goal
 
-pub flat-requires-clause-short : goal.flat-requires-clause-short
-flat-requires-clause-short c =
-    rw c.as_slice.ensures.value (c.code_can_be_flattened.ensures.short _ _ (omega (arith, c.requires)) c.in-Ok.ensures.read)
+pub returns-in_ok-text-in-Ok : goal.returns-in_ok-text-in-Ok
+returns-in_ok-text-in-Ok c =
+    written c.in-Ok.code.items c.in-Ok.ensures.read refl
+    (c.in_ok-text-in-Ok.ensures ∙ ap text_of (c.in_ok-body-in-Ok.ensures.flat ∙ ap flat_of c.as_slice.ensures.value))
 
-pub flat-requires-clause-operands : goal.flat-requires-clause-operands
-flat-requires-clause-operands c = rw c.as_slice.ensures.value (c.code_can_be_flattened.ensures.operands _ _ c.in-Ok.ensures.read)
+pub returns-in_ok-fault-in-Err-Fault : goal.returns-in_ok-fault-in-Err-Fault
+returns-in_ok-fault-in-Err-Fault c = refused c.in-Err-Fault.fault (search rules) refl c.in_ok-fault-in-Err-Fault.ensures

@@ -1,0 +1,74 @@
+-- How far the files of a command are read.
+use Rattle.std.proofs.Common.{◌≡◌, ◌<◌, ◌≤◌, ◌+◌, ℕ, zero, suc, List, [], ◌∷◌, ◌++◌, length, map, take, get_or, Option, Some, Err, refl, sym, ap, ◌∙◌, subst, arith}
+use Rattle.dc_base.specs.Outside.{CountsTake, HasRisen, IsFile, IsFileLength, Takes}
+use Rattle.dc_base.specs.declared.failure.Or.{Or}
+use Rattle.dc_base.specs.declared.failure.Or.TheVariants.{Fault}
+use Rattle.dc_base.specs.declared.shelf.TakeFault.{TakeFault}
+use Rattle.dc_base.specs.declared.shelf.TakeFault.TheVariants.{Longer, Failed}
+use Rattle.ilspy_cli.specs.Files.{Files, Wanted, AreRead, IsNext, Shelved, shelved, HasNotFailed}
+use Rattle.ilspy_cli.proofs.Lists.{map_append, map_more}
+
+-- these files were read, no read failed, and the shelf still tells the same
+pub record SoFar (shelf : Shelved) (now : Files) (all : List Wanted) (contents : List (List ℕ)) : Type 0 where
+  pub same : now ≡ shelf.files
+  pub unfailed : HasNotFailed shelf
+  pub read : AreRead shelf.files all contents
+
+-- what a call says that found the file too long
+pub longer_takes : (files : Files) (name : List ℕ) (limit n : ℕ) (o : Or TakeFault) → o ≡ Fault (Longer n) → Takes files name limit (Err o)
+    → (limit < n) × IsFileLength files name n
+longer_takes files name limit n o e h = subst (λ (o : Or TakeFault). Takes files name limit (Err o)) e h
+
+pub longer_counts : (name : List ℕ) (before now : ℕ) (last_before last_now : Option (List ℕ)) (n : ℕ) (o : Or TakeFault) → o ≡ Fault (Longer n)
+    → CountsTake name before now last_before last_now (Err o) → (now ≡ before) × (last_now ≡ last_before)
+longer_counts name before now last_before last_now n o e h = subst (λ (o : Or TakeFault). CountsTake name before now last_before last_now (Err o)) e h
+
+-- what a call says that failed
+pub failed_counts : (name : List ℕ) (before now : ℕ) (last_before last_now : Option (List ℕ)) (o : Or TakeFault) → o ≡ Fault Failed
+    → CountsTake name before now last_before last_now (Err o) → HasRisen before now × (last_now ≡ Some name)
+failed_counts name before now last_before last_now o e h = subst (λ (o : Or TakeFault). CountsTake name before now last_before last_now (Err o)) e h
+
+-- one more file was read
+read_more : (files : Files) (all : List Wanted) (contents : List (List ℕ)) (file : Wanted) (bytes : List ℕ) → AreRead files all contents
+    → IsFile files file.name bytes → length bytes ≤ file.limit → AreRead files (all ++ file ∷ []) (contents ++ bytes ∷ [])
+read_more files [] [] file bytes read is short = (is, short, tt)
+read_more files [] (c ∷ contents) file bytes read is short = absurd read
+read_more files (f ∷ all) [] file bytes read is short = absurd read
+read_more files (f ∷ all) (c ∷ contents) file bytes read is short = (read.0, read.1, read_more files all contents file bytes read.2 is short)
+
+-- the list is what stands before the item, the item, and the rest
+split : {X Y : Type 0} (f : X → Y) (xs : List X) (i : ℕ) (d : X) → i < length xs → (behind : List Y) × (map f xs ≡ map f (take i xs) ++ f (get_or xs i d) ∷ behind)
+split f [] i d lt = absurd (omega (arith, lt))
+split f (x ∷ xs) zero d lt = (map f xs, refl)
+split f (x ∷ xs) (suc i) d lt = let s = split f xs i d (omega (arith, lt)) in (s.0, ap (λ zs. f x ∷ zs) s.1)
+
+module _ {X V : Type 0} (w : X → Wanted) (g : V → List ℕ) (xs : List X) (i : ℕ) (item : X) (here : item ≡ get_or xs i item) (inside : i < length xs) where
+  -- the shelf took one more file
+  pub taken_more : (files mid now : Files) (before at count : ℕ) (last_before last_mid last_now : Option (List ℕ)) (vs : List V) (v : V)
+      → SoFar (shelved files before at last_before last_mid) mid (map w (take i xs)) (map g vs)
+      → now ≡ mid → count ≡ at → last_now ≡ last_mid → IsFile mid (w item).name (g v) → length (g v) ≤ (w item).limit
+      → SoFar (shelved files before count last_before last_now) now (map w (take (i + 1) xs)) (map g (vs ++ v ∷ []))
+  taken_more files mid now before at count last_before last_mid last_now vs v so same still kept is short =
+      let all : map w (take (i + 1) xs) ≡ map w (take i xs) ++ w item ∷ [] =
+      map_more w xs i item inside ∙ ap (λ x. map w (take i xs) ++ w x ∷ []) (sym here) in
+      let contents : map g (vs ++ v ∷ []) ≡ map g vs ++ g v ∷ [] = map_append g vs (v ∷ []) in
+      record {
+        same = same ∙ so.same;
+        unfailed = record { count = still ∙ so.unfailed.count; last = kept ∙ so.unfailed.last };
+        read = subst (λ a. AreRead files a (map g (vs ++ v ∷ []))) (sym all)
+            (subst (λ c. AreRead files (map w (take i xs) ++ w item ∷ []) c) (sym contents)
+            (read_more files (map w (take i xs)) (map g vs) (w item) (g v) so.read (subst (λ f. IsFile f (w item).name (g v)) so.same is) short));
+      }
+
+  -- the files before this one were read
+  pub next_one : (files mid : Files) (before at : ℕ) (last_before last_mid : Option (List ℕ)) (vs : List V)
+      → SoFar (shelved files before at last_before last_mid) mid (map w (take i xs)) (map g vs) → IsNext files (map w xs) (w item)
+  next_one files mid before at last_before last_mid vs so =
+      let s = split w xs i item inside in
+      record {
+        before = map w (take i xs);
+        behind = s.0;
+        among = s.1 ∙ ap (λ x. map w (take i xs) ++ w x ∷ s.0) (sym here);
+        contents = map g vs;
+        read = so.read;
+      }
