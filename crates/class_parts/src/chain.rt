@@ -6,6 +6,7 @@ ghost use Rattle.class_chains.specs.Ends.{Ends, IsAboveFirst, IsOpenAt};
 ghost use Rattle.class_rows.specs.Types.{IsAbove, IsOuter, ChainsEnd};
 ghost use Rattle.class_parts.specs.Above.{numbers_above, numbers_round, fault_of_type, lesser_fault};
 ghost use Rattle.class_parts.specs.Chains.{IsFirstCycle};
+ghost use Rattle.class_parts.specs.Orders.{AreOrders};
 
 use class_chains::above_first;
 use class_rows::TypeRow;
@@ -24,8 +25,7 @@ pub struct Orders {
 pub fn orders_of(alloc: Global, types: &[TypeRow]) -> Result<Orders, Or<TypeId>>
     requires { length types.now < 2 ^ 32 }
     ensures end { IfOk result (λ _. ChainsEnd types.now) }
-    ensures bases { IfOk result (λ orders. IsAboveFirst (IsAbove types.now) (length types.now) orders.bases) }
-    ensures outers { IfOk result (λ orders. IsAboveFirst (IsOuter types.now) (length types.now) orders.outers) }
+    ensures orders { IfOk result (AreOrders types.now) }
     ensures cycle { IfErr result (IsRefused (IsFirstCycle types.now)) }
 {
     let bases = bases_first(alloc, types);

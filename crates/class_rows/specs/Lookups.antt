@@ -117,20 +117,20 @@ pub record IsLookup (types : List TypeRow) (members : List MemberRow) (explicit 
 abbrev pub AreOwn : List TypeRow → ℕ → ℕ → Type 0
 AreOwn types from owner = HasType types from (λ row. row.own ≡ true) × HasType types owner (λ row. row.own ≡ true)
 
-abbrev pub IsThrough : List TypeRow → Option ℕ → ℕ → Type 0
+abbrev pub IsThrough : List TypeRow → Option TypeId → ℕ → Type 0
 IsThrough types None heir = Unit {0}
-IsThrough types (Some t) heir = InBaseChain types t heir
+IsThrough types (Some t) heir = InBaseChain types t.0 heir
 
 -- a type round `from`, or itself, is the owner or derives from it; what is reached goes through a type that is that
 -- heir or derives from it
-pub record IsHeir (types : List TypeRow) (from owner : ℕ) (through : Option ℕ) : Type 0 where
+pub record IsHeir (types : List TypeRow) (from owner : ℕ) (through : Option TypeId) : Type 0 where
   pub heir : ℕ
   pub round : IsRound types from heir
   pub derives : InBaseChain types heir owner
   pub reached : IsThrough types through heir
 
 -- what has this access in the owner may be named from there
-abbrev pub MayName : List TypeRow → Access → ℕ → ℕ → Option ℕ → Type 0
+abbrev pub MayName : List TypeRow → Access → ℕ → ℕ → Option TypeId → Type 0
 MayName types Public owner from through = Unit {0}
 MayName types Private owner from through = IsRound types from owner
 MayName types Internal owner from through = AreOwn types from owner
@@ -144,6 +144,6 @@ pub data IsOpen (types : List TypeRow) (from : ℕ) : ℕ → Type 0 where
   nested : (t o : ℕ) → IsOuter types t o → HasType types t (λ row. MayName types row.access o from None) → IsOpen types from o → IsOpen types from t
 
 -- a member may be named from a type, through a type where one is given
-abbrev pub IsAccessible : List TypeRow → List MemberRow → ℕ → ℕ → Option ℕ → Type 0
+abbrev pub IsAccessible : List TypeRow → List MemberRow → ℕ → ℕ → Option TypeId → Type 0
 IsAccessible types members from m through =
     HasMember members m (λ row. MayName types row.access row.owner.0 from through × IsOpen types from row.owner.0)
