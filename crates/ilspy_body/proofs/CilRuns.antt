@@ -2,11 +2,11 @@
 use Rattle.std.proofs.Common.{◌≡◌, ℕ, zero, suc, ◌+◌, ◌^◌, ◌<◌, ◌≤◌, cond, List, [], ◌∷◌, length, None, Some, ℤ, pos, negsuc, FitsSigned, w32, refl, ap, ◌∙◌, arith}
 use Rattle.std.specs.Prelude.{find, option_map, ◌==◌}
 use Rattle.std.proofs.lemmas.Bool.{eq-eqb, ne_eqb, lt-ltb}
-use Rattle.cil_body.specs.declared.instruction.Simple.{Simple}
-use Rattle.cil_body.specs.declared.opcode.Op.{Op}
-use Rattle.cil_body.specs.declared.opcode.Op.TheVariants.{LdcI4, LdcI4S}
-use Rattle.cil_body.specs.Opcode.{size_of}
-use Rattle.cil_body.specs.Cut.{Placed, IsConsecutive}
+use Rattle.cil_instruction.specs.declared.instruction.Simple.{Simple}
+use Rattle.cil_instruction.specs.declared.opcode.Op.{Op}
+use Rattle.cil_instruction.specs.declared.opcode.Op.TheVariants.{LdcI4, LdcI4S}
+use Rattle.cil_lone.specs.Row.{size_of}
+use Rattle.cil_lone.specs.Cut.{Placed, IsConsecutive}
 use Rattle.cil_meaning.specs.declared.machine.LoneState.{LoneState}
 use Rattle.cil_meaning.specs.declared.machine.LoneStepped.{LoneStepped}
 use Rattle.cil_meaning.specs.declared.machine.LoneStepped.TheVariants.{Next, Done, Stuck}
@@ -14,10 +14,10 @@ use Rattle.cil_meaning.specs.Step.{int_of, onward_of, act_of, standing_at, step_
 use Rattle.cil_meaning.specs.Meaning.{and_then, steps, start_of, CilReturns}
 
 -- an instruction has a byte at least
-size_of-positive : (op : Op) → 0 < size_of op
-size_of-positive LdcI4S = omega arith
-size_of-positive LdcI4 = omega arith
-size_of-positive _ = omega arith
+instructions_have_bytes : (op : Op) → 0 < size_of op
+instructions_have_bytes LdcI4S = omega arith
+instructions_have_bytes LdcI4 = omega arith
+instructions_have_bytes _ = omega arith
 
 -- the instruction at the head stands at its place
 standing_here : (e : Placed) (code : List Placed) (place : ℕ) → e.0 ≡ place → standing_at (e ∷ code) place ≡ Some e.1
@@ -42,7 +42,7 @@ SameFrom-start at code = record { same = λ place le. refl }
 pub SameFrom-behind : (at : ℕ) (whole : List Placed) (e : Placed) (code : List Placed) → e.0 ≡ at →
     SameFrom at whole (e ∷ code) → SameFrom (at + size_of e.1.op) whole code
 SameFrom-behind at whole e code h s =
-    let some = size_of-positive e.1.op in
+    let some = instructions_have_bytes e.1.op in
     record { same = λ place le. s.same place (omega arith) ∙ standing_later e code place (omega arith) }
 
 -- the instruction at the head acts
@@ -59,7 +59,7 @@ consecutive_le at (e ∷ code) end h = let le = consecutive_le (at + size_of e.1
 pub consecutive_length : (at : ℕ) (code : List Placed) (end : ℕ) → IsConsecutive at code end → at + length code ≤ end
 consecutive_length at [] end h = omega arith
 consecutive_length at (e ∷ code) end h =
-    let some = size_of-positive e.1.op in
+    let some = instructions_have_bytes e.1.op in
     let le = consecutive_length (at + size_of e.1.op) code end h.1 in
     omega arith
 

@@ -3,8 +3,8 @@ use Rattle.std.proofs.Common.{◌≡◌, ◌≢◌, ℕ, zero, suc, ◌+◌, ◌
 use Rattle.std.proofs.lemmas.Bool.{cases_lt}
 use Rattle.std.proofs.lemmas.List.{length-replicate}
 use Rattle.std.proofs.lemmas.List.Elements.{All-from_recursion, Contains-append_right}
-use Rattle.cil_body.specs.Opcode.{row_of}
-use Rattle.cil_body.specs.Cut.{Placed}
+use Rattle.cil_lone.specs.Row.{row_of}
+use Rattle.cil_lone.specs.Cut.{Placed}
 use Rattle.cs_meaning.specs.declared.body.Role.{Role}
 use Rattle.cs_meaning.specs.declared.body.Role.TheVariants.{Param}
 use Rattle.cs_meaning.specs.declared.tree.Literal.TheVariants.{Int}

@@ -1,8 +1,8 @@
 -- How far the flat form of some code is made.
 use Rattle.std.proofs.Common.{◌≡◌, ℕ, ◌+◌, ◌≤◌, ◌<◌, List, [], ◌∷◌, ◌++◌, length, drop, get_or, Some, None, refl, ap, ◌∙◌, sym, arith, append_assoc, add-one, drop-cons}
 use Rattle.std.proofs.lemmas.List.{append-nil, drop_all}
-use Rattle.cil_body.specs.Opcode.{row_of}
-use Rattle.cil_body.specs.Cut.{Placed}
+use Rattle.cil_lone.specs.Row.{row_of}
+use Rattle.cil_lone.specs.Cut.{Placed}
 use Rattle.cs_meaning.specs.declared.tree.Expr.{Expr}
 use Rattle.cs_meaning.specs.declared.tree.Expr.TheVariants as expr
 use Rattle.cs_meaning.specs.declared.tree.Stmt.{Stmt}

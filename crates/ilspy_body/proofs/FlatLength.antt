@@ -1,7 +1,7 @@
 -- A flat form has no more statements than its code has instructions.
 use Rattle.std.proofs.Common.{ℕ, ◌+◌, ◌≤◌, List, [], ◌∷◌, length, Option, Some, None, arith}
-use Rattle.cil_body.specs.Opcode.{row_of}
-use Rattle.cil_body.specs.Cut.{Placed}
+use Rattle.cil_lone.specs.Row.{row_of}
+use Rattle.cil_lone.specs.Cut.{Placed}
 use Rattle.cs_meaning.specs.declared.tree.Expr.{Expr}
 use Rattle.cs_meaning.specs.declared.tree.Stmt.{Stmt}
 use Rattle.ilspy_body.specs.Flat.{pushed, returned, declared_by, flat_from}

@@ -1,16 +1,16 @@
 -- What the statements of a flat form look like: each declares the next variable, and the last returns one.
 use Rattle.std.proofs.Common.{◌≡◌, ℕ, ◌+◌, ◌-◌, ◌<◌, ◌≤◌, List, [], ◌∷◌, length, Some, ℤ, FitsSigned, w32, false, refl, arith, rules}
-use Rattle.cil_body.specs.declared.opcode.Op.{Op}
-use Rattle.cil_body.specs.declared.opcode.Op.TheVariants as op
-use Rattle.cil_body.specs.declared.opcode.Row.{Row}
-use Rattle.cil_body.specs.declared.opcode.Row.TheVariants.{Load, Binary, Return, Beyond}
-use Rattle.cil_body.specs.declared.opcode.Source.{Source}
-use Rattle.cil_body.specs.declared.opcode.Source.TheVariants.{Argument, Number, Operand}
-use Rattle.cil_body.specs.declared.opcode.Two.{Two}
-use Rattle.cil_body.specs.declared.opcode.Two.TheVariants.{Add, Sub, Mul}
-use Rattle.cil_body.specs.Opcode.{row_of}
-use Rattle.cil_body.specs.Cut.{Placed}
-use Rattle.cil_body.specs.Lone.{depth_after, DoesItsPart, Walks}
+use Rattle.cil_instruction.specs.declared.opcode.Op.{Op}
+use Rattle.cil_instruction.specs.declared.opcode.Op.TheVariants as op
+use Rattle.cil_lone.specs.declared.row.Row.{Row}
+use Rattle.cil_lone.specs.declared.row.Row.TheVariants.{Load, Binary, Return, Beyond}
+use Rattle.cil_lone.specs.declared.row.Source.{Source}
+use Rattle.cil_lone.specs.declared.row.Source.TheVariants.{Argument, Number, Operand}
+use Rattle.cil_lone.specs.declared.row.Two.{Two}
+use Rattle.cil_lone.specs.declared.row.Two.TheVariants.{Add, Sub, Mul}
+use Rattle.cil_lone.specs.Row.{row_of}
+use Rattle.cil_lone.specs.Cut.{Placed}
+use Rattle.cil_lone.specs.Lone.{depth_after, DoesItsPart, Walks}
 use Rattle.cs_meaning.specs.declared.tree.Literal.TheVariants.{Int}
 use Rattle.cs_meaning.specs.declared.tree.BinaryOp.{BinaryOp}
 use Rattle.cs_meaning.specs.declared.tree.Expr.{Expr}

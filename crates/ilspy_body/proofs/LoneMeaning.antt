@@ -9,8 +9,8 @@ use Rattle.ilspy_body.proofs.Returns.{LoneLaws, flat_runs_as}
 use Rattle.ilspy_body.proofs.TextReads.{flat_text_reads}
 use Rattle.ilspy_body.proofs.TokensUnique.{one_tokens}
 use Rattle.ilspy_body.proofs.TreeUnique.{one_tree_of}
-use Rattle.cil_body.specs.Cut.{Placed}
-use Rattle.cil_body.specs.Lone.{IsLone}
+use Rattle.cil_lone.specs.Cut.{Placed}
+use Rattle.cil_lone.specs.Lone.{IsLone}
 use Rattle.ilspy_body.specs.Theorem.{LoneBodyMeansTheSame}
 
 pub text_means_the_same_lem : LoneLaws → (file : List ℕ) (code : List Placed) → length file ≤ 64 → IsLone file code → LoneBodyMeansTheSame file (text_of (flat_of code))

@@ -2,9 +2,9 @@
 use Rattle.std.proofs.Common.{◌≡◌, ◌≢◌, ℕ, zero, suc, ◌+◌, ◌^◌, ◌<◌, List, [], ◌∷◌, length, All, Some, ℤ, FitsSigned, w32, refl, ap, ◌∙◌, subst, arith, slice_get}
 use Rattle.std.proofs.lemmas.List.Elements.{recursion_from_All}
 use Rattle.std.specs.List.{AllByRecursion}
-use Rattle.cil_body.specs.Cut.{Placed, IsConsecutive}
-use Rattle.cil_body.specs.Lone.{Walks, IsLone}
-use Rattle.cil_body.specs.Laws.{CodeWalks, CodeIsConsecutive, OperandsFit as LoneOperandsFit}
+use Rattle.cil_lone.specs.Cut.{Placed, IsConsecutive}
+use Rattle.cil_lone.specs.Lone.{Walks, IsLone}
+use Rattle.cil_lone.specs.Laws.{CodeWalks, CodeIsConsecutive, OperandsFit as LoneOperandsFit}
 use Rattle.cil_meaning.specs.Meaning.{CilReturns}
 use Rattle.cs_meaning.specs.declared.body.Role.{Role}
 use Rattle.cs_meaning.specs.declared.body.Role.TheVariants.{Param}

@@ -2,16 +2,16 @@
 use Rattle.std.proofs.Common.{◌≡◌, ℕ, zero, suc, ◌+◌, ◌-◌, ◌^◌, ◌<◌, ◌≤◌, List, [], ◌∷◌, length, Some, ℤ, pos, false, refl, ap, ◌∙◌, subst, arith, slice_get, slice_set, get_or}
 use Rattle.std.proofs.lemmas.Option.{slice_get-get_or}
 use Rattle.std.proofs.lemmas.List.{length-set}
-use Rattle.cil_body.specs.declared.opcode.Row.{Row}
-use Rattle.cil_body.specs.declared.opcode.Row.TheVariants.{Load, Binary, Return, Beyond}
-use Rattle.cil_body.specs.declared.opcode.Source.{Source}
-use Rattle.cil_body.specs.declared.opcode.Source.TheVariants.{Argument, Number, Operand}
-use Rattle.cil_body.specs.declared.opcode.Two.{Two}
-use Rattle.cil_body.specs.declared.opcode.Two.TheVariants.{Add, Sub, Mul}
-use Rattle.cil_body.specs.declared.instruction.Simple.{Simple}
-use Rattle.cil_body.specs.Opcode.{row_of, size_of}
-use Rattle.cil_body.specs.Cut.{Placed, IsConsecutive}
-use Rattle.cil_body.specs.Lone.{depth_after, DoesItsPart, Walks}
+use Rattle.cil_lone.specs.declared.row.Row.{Row}
+use Rattle.cil_lone.specs.declared.row.Row.TheVariants.{Load, Binary, Return, Beyond}
+use Rattle.cil_lone.specs.declared.row.Source.{Source}
+use Rattle.cil_lone.specs.declared.row.Source.TheVariants.{Argument, Number, Operand}
+use Rattle.cil_lone.specs.declared.row.Two.{Two}
+use Rattle.cil_lone.specs.declared.row.Two.TheVariants.{Add, Sub, Mul}
+use Rattle.cil_instruction.specs.declared.instruction.Simple.{Simple}
+use Rattle.cil_lone.specs.Row.{row_of, size_of}
+use Rattle.cil_lone.specs.Cut.{Placed, IsConsecutive}
+use Rattle.cil_lone.specs.Lone.{depth_after, DoesItsPart, Walks}
 use Rattle.cil_meaning.specs.declared.machine.LoneState.{LoneState}
 use Rattle.cil_meaning.specs.declared.machine.LoneStepped.TheVariants.{Next}
 use Rattle.cil_meaning.specs.Step.{loaded_of, result_of, load_of, onward_of, act_by, step}

@@ -1,13 +1,13 @@
 -- The flat form of a lone body: each push makes a variable of its own.
 use Rattle.std.specs.Prelude.{◌≡◌, ℕ, ◌+◌, ℤ, false, List, [], ◌∷◌, ◌++◌, Option, Some, None, replicate}
-use Rattle.cil_body.specs.declared.opcode.Row.{Row}
-use Rattle.cil_body.specs.declared.opcode.Row.TheVariants.{Load, Binary, Return, Beyond}
-use Rattle.cil_body.specs.declared.opcode.Source.{Source}
-use Rattle.cil_body.specs.declared.opcode.Source.TheVariants.{Argument, Number, Operand}
-use Rattle.cil_body.specs.declared.opcode.Two.{Two}
-use Rattle.cil_body.specs.declared.opcode.Two.TheVariants.{Add, Sub, Mul}
-use Rattle.cil_body.specs.Opcode.{row_of}
-use Rattle.cil_body.specs.Cut.{Placed}
+use Rattle.cil_lone.specs.declared.row.Row.{Row}
+use Rattle.cil_lone.specs.declared.row.Row.TheVariants.{Load, Binary, Return, Beyond}
+use Rattle.cil_lone.specs.declared.row.Source.{Source}
+use Rattle.cil_lone.specs.declared.row.Source.TheVariants.{Argument, Number, Operand}
+use Rattle.cil_lone.specs.declared.row.Two.{Two}
+use Rattle.cil_lone.specs.declared.row.Two.TheVariants.{Add, Sub, Mul}
+use Rattle.cil_lone.specs.Row.{row_of}
+use Rattle.cil_lone.specs.Cut.{Placed}
 use Rattle.cs_meaning.specs.declared.body.Body.{Body}
 use Rattle.cs_meaning.specs.declared.body.Home.{Home}
 use Rattle.cs_meaning.specs.declared.body.Var.{Var as Variable}

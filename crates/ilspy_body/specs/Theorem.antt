@@ -2,8 +2,8 @@
 use Rattle.std.specs.Prelude.{◌≡◌, ◌↔◌, ℕ, ℤ, List, length, All, Some}
 use Rattle.std.specs.Int.{w32}
 use Rattle.std.specs.Int.RustNames.{FitsSigned}
-use Rattle.cil_body.specs.Cut.{Placed}
-use Rattle.cil_body.specs.Lone.{IsLone}
+use Rattle.cil_lone.specs.Cut.{Placed}
+use Rattle.cil_lone.specs.Lone.{IsLone}
 use Rattle.cil_meaning.specs.Meaning.{CilReturns}
 use Rattle.cs_meaning.specs.declared.body.Body.{Body}
 use Rattle.cs_meaning.specs.Meaning.{CsReturns}

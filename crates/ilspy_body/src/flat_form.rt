@@ -3,16 +3,16 @@
 ghost use Rattle.std.specs.Prelude.{◌≡◌, ℕ, List, ◌+◌, ◌<◌, ◌^◌, ◌++◌, pos, length, All, IfOk, OnOk, replicate};
 ghost use Rattle.std.specs.Int.{w32};
 ghost use Rattle.std.specs.Int.RustNames.{FitsSigned};
-ghost use Rattle.cil_body.specs.Opcode.{row_of};
-ghost use Rattle.cil_body.specs.Lone.{IsLone};
+ghost use Rattle.cil_lone.specs.Row.{row_of};
+ghost use Rattle.cil_lone.specs.Lone.{IsLone};
 ghost use Rattle.cs_meaning.specs.declared.body.Role.TheVariants.{SlotVar};
 ghost use Rattle.ilspy_body.specs.Theorem.{RunsAsTheCode};
 ghost use Rattle.ilspy_body.specs.Flat.{flat_of, Pushes, loaded_form, returned, sign_of, int_var, lone_vars, lone_body, declarations};
 
-use cil_body::{Row, Simple, Source, Two, balance_is_a_walk, code_fills_the_file};
+use cil_instruction::Simple;
+use cil_lone::{Row, Source, Two, balance_is_a_walk, code_fills_the_file};
 use cs_meaning::{BinaryOp, Body, Expr, Home, Literal, Role, Stmt, Var};
-use dc_base::{Core, NoMemory, Prim_, Seq, Stack, Ty};
-use sqlite_items::{Boxed, Items};
+use dc_base::{Boxed, Core, Items, NoMemory, Prim_, Seq, Stack, Ty};
 use std::alloc::Global;
 
 /// The type `int`.
@@ -63,7 +63,7 @@ fn pushed(alloc: Global, simple: Simple, slots: &mut Stack<u32>) -> Result<Optio
     requires { FitsSigned w32 simple.arg }
     ensures { IfOk result (λ value. Pushes (row_of simple.op) simple.arg slots.old slots.new value) }
 {
-    match simple.op.row() {
+    match Row::of(simple.op) {
         Row::Load(source) => Ok(Some(loaded(source, simple.arg))),
         Row::Binary(two) => computed(alloc, two, slots),
         Row::Return => Ok(None),

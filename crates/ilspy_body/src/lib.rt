@@ -1,7 +1,7 @@
 //! A lone body as C# text.
 //!
 //! ```text
-//! file ─ cil_body: code ─ flat: a C# body ─ text
+//! file ─ cil_lone: code ─ flat: a C# body ─ text
 //! ```
 //!
 //! [`flat`] makes the flat form of a lone body's code, in which each push declares a variable of its own, and [`text`] writes

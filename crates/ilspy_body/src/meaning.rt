@@ -3,13 +3,13 @@
 ghost use Rattle.std.specs.Prelude.{◌≤◌, ◌<◌, ◌^◌, ℕ, List, length, All};
 ghost use Rattle.std.specs.Int.{w32};
 ghost use Rattle.std.specs.Int.RustNames.{FitsSigned};
-ghost use Rattle.cil_body.specs.Cut.{Placed};
-ghost use Rattle.cil_body.specs.Lone.{IsLone};
+ghost use Rattle.cil_lone.specs.Cut.{Placed};
+ghost use Rattle.cil_lone.specs.Lone.{IsLone};
 ghost use Rattle.ilspy_body.specs.Flat.{flat_of};
 ghost use Rattle.ilspy_body.specs.Layout.{text_of};
 ghost use Rattle.ilspy_body.specs.Theorem.{LoneBodyMeansTheSame};
 
-use cil_body::{balance_is_a_walk, code_fills_the_file};
+use cil_lone::{balance_is_a_walk, code_fills_the_file};
 
 /// The text of a lone body's flat form means what the file's bytes mean.
 pub fn text_means_the_same()

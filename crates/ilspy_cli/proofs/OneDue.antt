@@ -1,7 +1,8 @@
 -- Where files are told and no read failed, one status and one text are due.
 use Rattle.std.proofs.Common.{◌≡◌, ℕ, List, [], ◌∷◌, Option, Some, sym, ap, ◌∙◌, subst}
-use Rattle.cil_body.specs.Laws.{HasOneCode, HasNoFault, HasOneFault}
+use Rattle.cil_lone.specs.Laws.{HasOneCode, HasNoFault, HasOneFault}
 use Rattle.pe_image.specs.Laws as image
+use Rattle.cli_metadata.specs.Laws as metadata
 use Rattle.dc_base.specs.Outside.{HasRisen}
 use Rattle.ilspy_body.specs.Flat.{flat_of}
 use Rattle.ilspy_body.specs.Layout.{text_of}
@@ -16,7 +17,7 @@ use Rattle.ilspy_cli.proofs.OneRequest.{one_request}
 use Rattle.ilspy_cli.proofs.OneFiles.{one_contents, not_both, one_too_long}
 use Rattle.ilspy_cli.proofs.OneShow.{one_of_show}
 
--- a file is a lone body in one way or has one fault, and is an image in one way or has one fault
+-- files are lone bodies and images in one way, and bytes are metadata in one way; else they have one fault
 pub record Readings : Type 0 where
   pub one_code : HasOneCode
   pub no_fault : HasNoFault
@@ -24,6 +25,9 @@ pub record Readings : Type 0 where
   pub one_image : image.HasOneReading
   pub no_image_fault : image.HasNoFault
   pub one_image_fault : image.HasOneFault
+  pub one_content : metadata.HasOneContent
+  pub no_metadata_fault : metadata.HasNoFault
+  pub one_metadata_fault : metadata.HasOneFault
 
 module _ (laws : Readings) where
   -- a file has one due text
@@ -39,7 +43,7 @@ module _ (laws : Readings) where
   one_of_request : (r : Request) (contents : List (List ℕ)) (s s' : Status) (t t' : List ℕ) → IsRequestDue r contents s t → IsRequestDue r contents s' t' → SameDue s s' t t'
   one_of_request (Body name) (file ∷ []) s s' t t' p q = one_of_body file s s' t t' p q
   one_of_request (Show name) (assembly ∷ []) s s' t t' p q =
-      one_of_show laws.one_image laws.no_image_fault laws.one_image_fault assembly s s' t t' p q
+      one_of_show laws.one_image laws.no_image_fault laws.one_image_fault laws.one_content laws.no_metadata_fault laws.one_metadata_fault assembly s s' t t' p q
   one_of_request (Body name) [] s s' t t' p q = absurd p
   one_of_request (Body name) (a ∷ b ∷ more) s s' t t' p q = absurd p
   one_of_request (Show name) [] s s' t t' p q = absurd p

@@ -1,6 +1,7 @@
 -- A file that is to be shown has one due text.
 use Rattle.std.proofs.Common.{◌≡◌, inl, inr, ℕ, List, Option, Some, None, Ok, Err, refl, sym, ap, ◌∙◌, subst, arith}
 use Rattle.std.specs.Prelude.{IsUtf8}
+use Rattle.cli_metadata.specs.Laws as metadata
 use Rattle.pe_image.specs.Laws.{HasOneReading, HasNoFault, HasOneFault}
 use Rattle.pe_image.specs.declared.sections.Section.{Section}
 use Rattle.pe_image.specs.declared.sections.Span.{Span}
@@ -9,7 +10,9 @@ use Rattle.pe_image.specs.Image.{IsImage}
 use Rattle.cli_metadata.specs.declared.fault.MetaFault.{MetaFault}
 use Rattle.cli_metadata.specs.declared.fault.MetaCause.{MetaCause}
 use Rattle.cli_metadata.specs.declared.fault.MetaCause.TheVariants.{BadRoot, BadStream, BadHeader, UnknownTable, Truncated, BadIndex, BadText, BadBlob}
-use Rattle.cli_metadata.specs.Metadata.{Contents, metadata_of, IsString, IsNoString, up_to_zero}
+use Rattle.cli_metadata.specs.Metadata.{Contents, IsString, IsNoString, up_to_zero}
+use Rattle.cli_metadata.specs.Standing.{IsStanding}
+use Rattle.cli_metadata.specs.Wrong.{IsWrong}
 use Rattle.ilspy_cli.specs.declared.status.Status.{Status}
 use Rattle.ilspy_cli.specs.Lines.{bad_image_line, bad_metadata_line, bad_name_line}
 use Rattle.ilspy_cli.specs.Show.{HasContents, HasBadMetadata, IsAssemblyName, HasNoName, name_index, written_name, show_text, IsShown, IsNotShown, bad_image, bad_metadata, bad_name, IsShowDue, shown, not_shown}
@@ -77,7 +80,8 @@ no_name : (contents : Contents) (a : Option (List ℕ)) (cause : MetaCause) → 
 no_name contents None cause p q = q.row p
 no_name contents (Some a) cause p q = not_both_strings contents.strings (name_index contents) a cause p.1 q.none
 
-module _ (one_image : HasOneReading) (no_fault : HasNoFault) (one_fault : HasOneFault) where
+module _ (one_image : HasOneReading) (no_fault : HasNoFault) (one_fault : HasOneFault)
+  (one-content : metadata.HasOneContent) (no-metadata-fault : metadata.HasNoFault) (one-metadata-fault : metadata.HasOneFault) where
   -- an image has one metadata
   one_metadata : (file : List ℕ) (s t : List Section) (m n : Span) → IsImage file s m → IsImage file t n → bytes_in file m ≡ bytes_in file n
   one_metadata file s t m n p q = ap (bytes_in file) (one_image file s t m n p q).1
@@ -85,18 +89,18 @@ module _ (one_image : HasOneReading) (no_fault : HasNoFault) (one_fault : HasOne
   -- and one content
   one_contents : (file : List ℕ) (a b : Contents) → HasContents file a → HasContents file b → a ≡ b
   one_contents file a b p q =
-      let e : Ok a ≡ Ok b = sym p.reads ∙ ap metadata_of (one_metadata file p.sections q.sections p.metadata q.metadata p.image q.image) ∙ q.reads in
-      cc
+      let same = one_metadata file p.sections q.sections p.metadata q.metadata p.image q.image in
+      one-content (bytes_in file q.metadata) a b (subst (λ bytes. IsStanding bytes a) same p.stands) q.stands
 
   one_bad : (file : List ℕ) (e f : MetaFault) → HasBadMetadata file e → HasBadMetadata file f → e ≡ f
   one_bad file e f p q =
-      let same : Err e ≡ Err f = sym p.fails ∙ ap metadata_of (one_metadata file p.sections q.sections p.metadata q.metadata p.image q.image) ∙ q.fails in
-      cc
+      let same = one_metadata file p.sections q.sections p.metadata q.metadata p.image q.image in
+      one-metadata-fault (bytes_in file q.metadata) e f (subst (λ bytes. IsWrong bytes e.place e.cause) same p.wrong) q.wrong
 
   not_good_and_bad : (file : List ℕ) (a : Contents) (e : MetaFault) → HasContents file a → HasBadMetadata file e → ⊥
   not_good_and_bad file a e p q =
-      let same : Ok a ≡ Err e = sym p.reads ∙ ap metadata_of (one_metadata file p.sections q.sections p.metadata q.metadata p.image q.image) ∙ q.fails in
-      cc
+      let same = one_metadata file p.sections q.sections p.metadata q.metadata p.image q.image in
+      no-metadata-fault (bytes_in file q.metadata) a e (subst (λ bytes. IsStanding bytes a) same p.stands) q.wrong
 
   shown_once : (file t t' : List ℕ) → IsShown file t → IsShown file t' → t ≡ t'
   shown_once file t t' p q =

@@ -7,8 +7,8 @@ use Rattle.pe_image.specs.declared.fault.ImageCause.TheVariants.{NotPe, BadSecti
 use Rattle.cli_metadata.specs.declared.fault.MetaFault.{MetaFault}
 use Rattle.cli_metadata.specs.declared.fault.MetaCause.{MetaCause}
 use Rattle.cli_metadata.specs.declared.fault.MetaCause.TheVariants.{BadRoot, BadStream, BadHeader, UnknownTable, Truncated as TruncatedTables, BadIndex, BadText, BadBlob}
-use Rattle.cil_body.specs.declared.standalone.LoneFault.{LoneFault}
-use Rattle.cil_body.specs.declared.standalone.LoneFault.TheVariants.{BadHeader, Truncated, NotYet, Underflow, BadReturn, Trailing}
+use Rattle.cil_lone.specs.declared.standalone.LoneFault.{LoneFault}
+use Rattle.cil_lone.specs.declared.standalone.LoneFault.TheVariants.{BadHeader, Truncated, NotYet, Underflow, BadReturn, Trailing}
 
 abbrev pub line_end : List ℕ
 line_end = 10 ∷ []

@@ -1,8 +1,8 @@
 -- What a run comes to.
 use Rattle.std.specs.Prelude.{◌≡◌, ℕ, List, [], ◌∷◌, ◌++◌, Option, option_map}
-use Rattle.cil_body.specs.declared.standalone.LoneFault.{LoneFault}
-use Rattle.cil_body.specs.Cut.{Placed}
-use Rattle.cil_body.specs.Lone.{IsLone, IsLoneFault}
+use Rattle.cil_lone.specs.declared.standalone.LoneFault.{LoneFault}
+use Rattle.cil_lone.specs.Cut.{Placed}
+use Rattle.cil_lone.specs.Lone.{IsLone, IsLoneFault}
 use Rattle.dc_base.specs.Outside.{HasRisen, IsFile}
 use Rattle.ilspy_body.specs.Flat.{flat_of}
 use Rattle.ilspy_body.specs.Layout.{text_of}

@@ -9,7 +9,7 @@ use crate::shown::show;
 use crate::taking::{Untaken, take_all};
 use crate::words::{Request, asked};
 use crate::{Status, lines};
-use cil_body::lone;
+use cil_lone::lone;
 use dc_base::{NoMemory, Or, Shelf, Text};
 use ilspy_body::{code_can_be_flattened, flat, text};
 use std::alloc::Global;

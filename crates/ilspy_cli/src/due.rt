@@ -11,6 +11,7 @@ pub fn one_due()
         → (words : List (List ℕ)) (status other : Status) (text others : List ℕ)
         → IsDue shelf words status text → IsDue shelf words other others → (status ≡ other) × (text ≡ others) }
 {
-    cil_body::one_reading();
+    cil_lone::one_reading();
     pe_image::one_reading();
+    cli_metadata::one_reading();
 }

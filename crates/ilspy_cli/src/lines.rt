@@ -4,7 +4,7 @@ ghost use Rattle.std.specs.Prelude.{◌≡◌, IfOk, codes};
 ghost use Rattle.std.specs.String.{string_bytes};
 ghost use Rattle.ilspy_cli.specs.Lines.{usage_line, cannot_read_line, too_big_line, fault_line, bad_body_line, image_cause, bad_image_line, metadata_cause, bad_metadata_line, bad_name_line};
 
-use cil_body::LoneFault;
+use cil_lone::LoneFault;
 use cli_metadata::{MetaCause, MetaFault};
 use dc_base::{NoMemory, Text};
 use pe_image::{ImageCause, ImageFault};

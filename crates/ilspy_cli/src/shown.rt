@@ -7,13 +7,11 @@ ghost use Rattle.ilspy_cli.specs.Show.{IsShowDue, IsAssemblyName, HasNoName, wri
 use crate::answer::Answer;
 use crate::escape::push_escaped;
 use crate::{Status, lines};
-use cli_metadata::{MetaCause, Metadata};
+use cli_metadata::{MetaCause, Metadata, Table};
+use cli_rows::AssemblyRow;
 use dc_base::{NoMemory, Text};
 use pe_image::Image;
 use std::alloc::Global;
-
-/// The table of assemblies (ECMA-335 II.22.2).
-const ASSEMBLY_TABLE: u8 = 0x20;
 
 /// What is due for a file that is to be shown.
 pub(crate) fn show(alloc: Global, file: &[u8]) -> Result<Answer, NoMemory>
@@ -52,11 +50,11 @@ fn assembly_name<'a>(metadata: &Metadata<'a>) -> Result<Option<&'a str>, MetaCau
         (λ name. IsAssemblyName metadata.now (option_map (λ text. text.now) name))
         (HasNoName metadata.now) }
 {
-    if metadata.rows(ASSEMBLY_TABLE) == 0 {
+    if metadata.rows(Table::Assembly) == 0 {
         return Ok(None);
     }
-    let row = metadata.row(ASSEMBLY_TABLE, 1);
-    match metadata.string(row.cells[7]) {
+    let row: AssemblyRow = metadata.row(1);
+    match metadata.string(row.name) {
         Ok(name) => Ok(Some(name)),
         Err(fault) => Err(fault.cause),
     }
@@ -72,10 +70,10 @@ fn text(alloc: Global, metadata: &Metadata, name: Option<&str>) -> Result<Text, 
         None => out.push_str("-")?,
     }
     out.push_str("\n")?;
-    push_count(&mut out, "types ", metadata.rows(0x02))?;
-    push_count(&mut out, "fields ", metadata.rows(0x04))?;
-    push_count(&mut out, "methods ", metadata.rows(0x06))?;
-    push_count(&mut out, "properties ", metadata.rows(0x17))?;
+    push_count(&mut out, "types ", metadata.rows(Table::TypeDef))?;
+    push_count(&mut out, "fields ", metadata.rows(Table::Field))?;
+    push_count(&mut out, "methods ", metadata.rows(Table::MethodDef))?;
+    push_count(&mut out, "properties ", metadata.rows(Table::Property))?;
     Ok(Text::from_string(out))
 }
 

@@ -2,7 +2,7 @@
 
 ghost use Rattle.std.specs.Prelude.{◌≤◌, length};
 
-use cil_body::lone;
+use cil_lone::lone;
 use cil_meaning::{LoneState, LoneStepped, lone_step};
 use cs_meaning::lone_exec;
 use dc_base::{MemShelf, MemSink, NoMemory, OpenGate, Stack, Text};

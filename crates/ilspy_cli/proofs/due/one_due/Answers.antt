@@ -1,4 +1,4 @@
--- A file is a lone body and an image in one way, so one status and one text are due for it.
+-- Files, images and metadata are read in one way, so one status and one text are due for it.
 use Rattle.ilspy_cli.proofs.OneDue.{Readings, one_due}
 use Rattle.ilspy_cli.proofs.due.one_due.Goals as goal
 
@@ -11,6 +11,9 @@ returns c = λ shelf files told still words status other text others p q.
       one_image = c.one_reading-2.ensures.one_image;
       no_image_fault = c.one_reading-2.ensures.no_fault;
       one_image_fault = c.one_reading-2.ensures.one_fault;
+      one_content = c.one_reading-3.ensures.one_content;
+      no_metadata_fault = c.one_reading-3.ensures.no_fault;
+      one_metadata_fault = c.one_reading-3.ensures.one_fault;
     } in
     let same = one_due readings shelf files told still words status other text others p q in
     (same.status, same.text)
