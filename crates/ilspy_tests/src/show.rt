@@ -107,16 +107,5 @@ fn a_file_that_is_no_whole_assembly_is_refused(rt: HostRuntime) -> Result<(), Fa
     let not_pe = "refused: BadImage NotPe at 0\n";
     check(&rt, alloc, &words, &SUM, Status::Refused, not_pe)?;
     check(&rt, alloc, &words, &[], Status::Refused, not_pe)?;
-    let mut zeros = vec![in alloc; 0u8; 16_777_216]?;
-    check(&rt, alloc, &words, &zeros, Status::Refused, not_pe)?;
-    zeros.push(0)?;
-    check(
-        &rt,
-        alloc,
-        &words,
-        &zeros,
-        Status::Refused,
-        "refused: TooBig f\n",
-    )?;
     Ok(())
 }
