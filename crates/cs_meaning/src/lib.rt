@@ -9,6 +9,7 @@
 #![tactic(auto)]
 
 mod body;
+mod copying;
 mod run;
 mod state;
 #[cfg(test)]
