@@ -1,4 +1,4 @@
--- Where a row leads to (ECMA-335 III.1.7.4, III.3 and III.4; the column of control flow in VI.C.2).
+-- Where a row leads to (ECMA-335 III.1.7.2, III.3 and III.4; the column of control flow in VI.C.2).
 use Rattle.std.specs.Prelude.{ℕ, Bool, true, false, List, [], ◌∷◌}
 use Rattle.cil_rows.specs.declared.row.Row.{Row}
 use Rattle.cil_rows.specs.declared.row.Row.TheVariants.{Branch, BranchIf, BranchCompare, Switch, Leave, Return, Throw, Rethrow, EndFinally}

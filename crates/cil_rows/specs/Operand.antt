@@ -1,4 +1,4 @@
--- The operand of a row, from the number that an instruction has (ECMA-335 III.1.9).
+-- The operand of a row, from the number that an instruction has (ECMA-335 III.1.9, VI.C.2).
 use Rattle.std.specs.Prelude.{ℕ, ◌^◌, ℤ, pos, negsuc, List, [], ◌∷◌, nat_lt, if◌then◌else◌}
 use Rattle.dc_base.specs.declared.names.Token.{Token}
 
