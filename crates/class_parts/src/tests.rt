@@ -1,40 +1,32 @@
 // Small tables, worked by hand.
 
+ghost use Rattle.std.specs.Prelude.{IfOk};
+ghost use Rattle.class_parts.specs.Orders.{AreOrders};
+
 use crate::{Orders, accessible, orders_of};
 use class_rows::{Access, Kind, MemberKind, MemberRow, TypeRow, Virt};
 use dc_base::{Core, MemberId, NoMemory, Or, Seq, Text, Ty, TypeId};
 use std::alloc::Global;
 use std::test::Fail;
 
-// The numbers that a type names: its outer type, its base, and an interface.
-struct Names {
-    outer: Option<u32>,
-    base: Option<u32>,
-    interface: Option<u32>,
-}
-
-fn type_row(alloc: Global, names: &Names, access: Access, own: bool) -> Result<TypeRow, NoMemory> {
-    let mut bases = Vec::new(alloc);
-    if let Some(interface) = names.interface {
-        bases.push(TypeId(interface))?;
-    }
+fn type_row(alloc: Global, base: Option<u32>) -> Result<TypeRow, NoMemory> {
     Ok(TypeRow {
         name: Text::of(alloc, "T")?,
         space: Text::of(alloc, "")?,
-        outer: names.outer.map(TypeId),
+        outer: None,
         kind: Kind::Class,
-        access,
-        base: names.base.map(TypeId),
-        bases: Seq::of(bases),
+        access: Access::Public,
+        base: base.map(TypeId),
+        bases: Seq::of(Vec::new(alloc)),
         is_abstract: false,
         is_sealed: false,
-        own,
+        own: true,
     })
 }
 
-fn member_row(alloc: Global, owner: u32, access: Access) -> Result<MemberRow, NoMemory> {
+fn member_row(alloc: Global, access: Access) -> Result<MemberRow, NoMemory> {
     Ok(MemberRow {
-        owner: TypeId(owner),
+        owner: TypeId(0),
         name: Text::of(alloc, "M")?,
         kind: MemberKind::Method,
         access,
@@ -49,124 +41,78 @@ fn member_row(alloc: Global, owner: u32, access: Access) -> Result<MemberRow, No
     })
 }
 
-fn types_of(alloc: Global, table: &[Names]) -> Result<Vec<TypeRow>, NoMemory> {
+fn types_of(alloc: Global, bases: &[Option<u32>]) -> Result<Vec<TypeRow>, NoMemory> {
     let mut types = Vec::new(alloc);
-    for names in table {
-        types.push(type_row(alloc, names, Access::Public, true)?)?;
+    for base in bases {
+        types.push(type_row(alloc, *base)?)?;
     }
     Ok(types)
 }
 
-fn orders(alloc: Global, table: &[Names]) -> Result<Orders, Or<TypeId>> {
-    let types = types_of(alloc, table)?;
-    orders_of(alloc, types.as_slice())
+fn orders(alloc: Global, types: &[TypeRow]) -> Result<Orders, Or<TypeId>>
+    ensures { IfOk result (AreOrders types.now) }
+{
+    if types.len() < 100 {
+        orders_of(alloc, types)
+    } else {
+        Err(Or::NoMemory)
+    }
 }
 
-fn names(outer: Option<u32>, base: Option<u32>, interface: Option<u32>) -> Names {
-    Names {
-        outer,
-        base,
-        interface,
-    }
+fn order(alloc: Global, bases: &[Option<u32>]) -> Result<Seq<u32>, Or<TypeId>> {
+    let types = types_of(alloc, bases)?;
+    let found = orders(alloc, types.as_slice())?;
+    Ok(found.bases)
+}
+
+// Whether a member of the type 0 is open from a type.
+fn is_open(
+    alloc: Global,
+    bases: &[Option<u32>],
+    access: Access,
+    from: u32,
+) -> Result<bool, Or<TypeId>> {
+    let types = types_of(alloc, bases)?;
+    let found = orders(alloc, types.as_slice())?;
+    let members = [member_row(alloc, access)?];
+    Ok(accessible(
+        types.as_slice(),
+        &members,
+        &found,
+        TypeId(from),
+        MemberId(0),
+        None,
+    ))
 }
 
 #[test]
 fn tells_the_first_type_whose_chain_goes_on(rt: HostRuntime) -> Result<(), Fail> {
     let alloc = rt.alloc();
-    // A chain of bases and one of outer types, a type that derives from the one round it, a base past the list.
-    let ends = [
-        names(None, None, None),
-        names(None, Some(0), None),
-        names(Some(1), Some(1), Some(4)),
-        names(Some(2), Some(9), None),
-        names(None, None, None),
-    ];
-    assert!(rt; orders(alloc, &ends)?.bases.items() == [0, 1, 4, 2, 3].as_slice());
-    // Two bases of one another, and a lesser type nested in itself.
-    let both = [
-        names(None, None, None),
-        names(Some(1), None, None),
-        names(None, Some(3), None),
-        names(None, Some(2), None),
-    ];
-    assert_eq!(rt; fault(alloc, &both), Some(TypeId(1)));
-    // Interfaces that name one another; the type that names them is the least.
-    let interfaces = [
-        names(None, None, Some(1)),
-        names(None, None, Some(2)),
-        names(None, None, Some(1)),
-    ];
-    assert_eq!(rt; fault(alloc, &interfaces), Some(TypeId(0)));
+    let ends = order(alloc, &[None, Some(2), Some(0)]);
+    assert_eq!(rt;
+        format!(in alloc; "{ends:?}")?.as_str(),
+        "Ok(Seq { items: [0, 2, 1] })"
+    );
+    let cycle = order(alloc, &[None, Some(2), Some(1)]);
+    assert_eq!(rt;
+        format!(in alloc; "{cycle:?}")?.as_str(),
+        "Err(Fault(TypeId(1)))"
+    );
     Ok(())
-}
-
-fn fault(alloc: Global, table: &[Names]) -> Option<TypeId> {
-    match orders(alloc, table) {
-        Err(Or::Fault(t)) => Some(t),
-        _ => None,
-    }
 }
 
 #[test]
 fn tells_from_where_a_member_may_be_named(rt: HostRuntime) -> Result<(), Fail> {
     let alloc = rt.alloc();
-    // 0 the owner, 1 nested in it, 2 derives from it, 3 nested in 2, 4 elsewhere, 5 derives from 2, 6 a reference.
-    let mut types = types_of(
-        alloc,
-        &[
-            names(None, None, None),
-            names(Some(0), None, None),
-            names(None, Some(0), None),
-            names(Some(2), None, None),
-            names(None, None, None),
-            names(None, Some(2), None),
-        ],
-    )?;
-    types.push(type_row(alloc, &names(None, Some(0), None), Access::Public, false)?)?;
-    let orders = orders_of(alloc, types.as_slice())?;
-    // For each access, from which types it is open, without a type that it goes through.
-    let table = [
-        (Access::Private, [true, true, false, false, false, false, false]),
-        (Access::PrivateProtected, [true, true, true, true, false, true, false]),
-        (Access::Internal, [true, true, true, true, true, true, false]),
-        (Access::Protected, [true, true, true, true, false, true, true]),
-        (Access::ProtectedInternal, [true, true, true, true, true, true, true]),
-        (Access::Public, [true, true, true, true, true, true, true]),
-    ];
-    for (access, want) in table {
-        let members = [member_row(alloc, 0, access)?];
-        for (from, want) in want.iter().enumerate() {
-            let open = accessible(&types, &members, &orders, TypeId(from as u32), MemberId(0), None);
-            assert_eq!(rt; open, *want, "{access:?} from {from}");
-        }
-    }
-    // Through a type: a protected member of 0 from 3, which is nested in the heir 2.
-    let members = [member_row(alloc, 0, Access::Protected)?];
-    for (through, want) in [(0, false), (2, true), (5, true), (4, false)] {
-        let open = accessible(&types, &members, &orders, TypeId(3), MemberId(0), Some(TypeId(through)));
-        assert_eq!(rt; open, want, "through {through}");
-    }
-    Ok(())
-}
-
-#[test]
-fn a_member_of_a_hidden_type_is_hidden(rt: HostRuntime) -> Result<(), Fail> {
-    let alloc = rt.alloc();
-    let mut types = Vec::new(alloc);
-    types.push(type_row(alloc, &names(None, None, None), Access::Public, false)?)?;
-    types.push(type_row(alloc, &names(Some(0), None, None), Access::Protected, false)?)?;
-    types.push(type_row(alloc, &names(None, None, None), Access::Internal, false)?)?;
-    types.push(type_row(alloc, &names(None, Some(0), None), Access::Internal, true)?)?;
-    types.push(type_row(alloc, &names(None, None, None), Access::Public, true)?)?;
-    let orders = orders_of(alloc, types.as_slice())?;
-    let members = [
-        member_row(alloc, 1, Access::Public)?,
-        member_row(alloc, 2, Access::Public)?,
-        member_row(alloc, 3, Access::Public)?,
-    ];
-    for (from, m, want) in [(3, 0, true), (4, 0, false), (3, 1, false), (4, 2, true)] {
-        let open = accessible(&types, &members, &orders, TypeId(from), MemberId(m), None);
-        assert_eq!(rt; open, want, "{m} from {from}");
+    let bases = [None, Some(0), None];
+    for (access, from, want) in [
+        (Access::Private, 1, "Ok(false)"),
+        (Access::Protected, 1, "Ok(true)"),
+        (Access::Protected, 2, "Ok(false)"),
+        (Access::Internal, 2, "Ok(true)"),
+    ] {
+        let answer = is_open(alloc, &bases, access, from);
+        assert_eq!(rt; format!(in alloc; "{answer:?}")?.as_str(), want);
     }
     Ok(())
 }
