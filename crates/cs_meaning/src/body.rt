@@ -1,8 +1,7 @@
 // A body: its home, its variables and its statements.
 
 use crate::tree::Stmt;
-use dc_base::{MemberId, Seq, Ty, TypeId};
-use sqlite_items::Items;
+use dc_base::{Items, MemberId, Seq, Ty, TypeId};
 
 /// The body of a method.
 #[derive(Debug, Drop)]

@@ -10,8 +10,7 @@ ghost use Rattle.cs_meaning.specs.Typed.{IsLoneTyped};
 use crate::body::{Body, Role, Var};
 use crate::state::{End, State, Value};
 use crate::tree::{BinaryOp, Expr, Literal, Stmt};
-use dc_base::NoMemory;
-use sqlite_items::Items;
+use dc_base::{Items, NoMemory};
 use std::alloc::Global;
 
 /// Calls a lone body with four ints: the int that it returns.

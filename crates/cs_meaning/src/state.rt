@@ -1,6 +1,6 @@
 // What a running body has and how it ends.
 
-use sqlite_items::Items;
+use dc_base::Items;
 
 /// A value. A body that calls nothing computes with ints alone.
 #[derive(Debug, Drop)]

@@ -8,8 +8,7 @@ ghost use Rattle.cs_meaning.specs.Samples.{flat_stmts, lone_vars};
 use crate::body::{Body, Home, Role, Var};
 use crate::run::lone_exec;
 use crate::tree::{BinaryOp, Expr, Literal, Stmt};
-use dc_base::{Core, NoMemory, Prim_, Seq, Ty};
-use sqlite_items::{Boxed, Items};
+use dc_base::{Boxed, Core, Items, NoMemory, Prim_, Seq, Ty};
 use std::alloc::Global;
 use std::test::Fail;
 

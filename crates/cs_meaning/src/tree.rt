@@ -3,8 +3,7 @@
 // A variable and a label are named by number, a member by its number in the assembly. The final marks stand from the
 // start: `checked` for overflow tests, `by_slot` for a call of the override that the object has, `unequal` for `!=`.
 
-use dc_base::{MemberId, Seq, Ty, TypeId};
-use sqlite_items::{Boxed, Items};
+use dc_base::{Boxed, Items, MemberId, Seq, Ty, TypeId};
 
 /// A literal (ECMA-334, 6.4.5). A text is its UTF-16 units.
 #[derive(Debug, Drop)]

@@ -1,3 +1,4 @@
+pub mod Identifiers
 pub mod MemShelf
 pub mod MemSink
 pub mod Outside

@@ -4,6 +4,7 @@ ghost use Rattle.std.specs.Prelude.{◌≡◌};
 ghost use Rattle.dc_base.specs.declared.failure.Or.TheVariants.{NoMemory as WithoutMemory};
 
 use std::alloc::{AllocError, AllocFailed};
+use std::fmt::{Debug, Display};
 use thiserror::Error;
 
 /// Memory was wanted and not there. A call that answers this has dropped what it consumed.
@@ -24,9 +25,12 @@ impl<T: Drop> From<AllocFailed<T>> for NoMemory {
 }
 
 /// Want of memory, or a fault `E` of the call.
-#[derive(Clone, Copy, Debug)]
+#[derive(Clone, Copy, Debug, Error)]
+#[error_bound(E: Debug + Display)]
 pub enum Or<E> {
+    #[error("out of memory")]
     NoMemory,
+    #[error("{0}")]
     Fault(E),
 }
 
@@ -51,5 +55,20 @@ impl<E> From<NoMemory> for Or<E> {
 
     fn from(_: NoMemory) -> Self {
         Or::NoMemory
+    }
+}
+
+#[cfg(test)]
+mod tests {
+    use super::*;
+    use std::test::Fail;
+
+    #[test]
+    fn tells_what_is_wrong(rt: HostRuntime) -> Result<(), Fail> {
+        let alloc = rt.alloc();
+        for (error, text) in [(Or::NoMemory, "out of memory"), (Or::Fault(7), "7")] {
+            assert_eq!(rt; format!(in alloc; "{error}")?.as_str(), text);
+        }
+        Ok(())
     }
 }
