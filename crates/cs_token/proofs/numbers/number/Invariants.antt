@@ -1,0 +1,7 @@
+-- The value so far is that of the digits so far.
+use Rattle.std.proofs.Common.{◌≡◌, ◌^◌, ◌<◌, take}
+use Rattle.std.specs.Str.Parse.{digits_value}
+use Rattle.cs_token.proofs.numbers.number.Given as goal
+
+abbrev pub invariant-loop-c : goal.invariant-loop-c
+invariant-loop-c l = (l.value ≡ digits_value 10 (take l.c-index l.digits)) × (l.value < 2 ^ 64)
