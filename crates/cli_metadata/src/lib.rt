@@ -8,7 +8,7 @@
 //!
 //! Places count bytes from the root's first one. The tables with their columns stand in `TABLES`, the coded indices with
 //! their tables in `Coded::targets`. A row comes as a type that names its columns, a `TableRow`: those types are in the
-//! crate `cli_rows`.
+//! crate `cli_tables`.
 #![tactic(auto)]
 
 mod coded_index;

@@ -13,7 +13,7 @@ use Rattle.cli_metadata.specs.declared.tables.Table.TheVariants.{TypeDef, Field,
 use Rattle.cli_metadata.specs.Metadata.{Contents, rows_of, row_of, IsString, IsNoString}
 use Rattle.cli_metadata.specs.Standing.{IsStanding}
 use Rattle.cli_metadata.specs.Wrong.{IsWrong}
-use Rattle.cli_rows.specs.Assemblies.{assembly_of}
+use Rattle.cli_tables.specs.Assemblies.{assembly_of}
 use Rattle.ilspy_cli.specs.Escape.{escaped}
 use Rattle.ilspy_cli.specs.Lines.{line_end, bad_image_line, bad_metadata_line, bad_name_line}
 use Rattle.ilspy_cli.specs.declared.status.Status.{Status}

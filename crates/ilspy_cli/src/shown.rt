@@ -8,7 +8,7 @@ use crate::answer::Answer;
 use crate::escape::push_escaped;
 use crate::{Status, lines};
 use cli_metadata::{MetaCause, Metadata, Table};
-use cli_rows::AssemblyRow;
+use cli_tables::AssemblyRow;
 use dc_base::{NoMemory, Text};
 use pe_image::Image;
 use std::alloc::Global;

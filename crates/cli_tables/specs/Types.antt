@@ -1,11 +1,11 @@
 -- Types: which column each name is (ECMA-335 II.22). Columns count from 0.
 use Rattle.std.specs.Prelude.{ℕ, List, slice_index}
 use Rattle.cli_metadata.specs.declared.coded_index.Coded.TheVariants.{ResolutionScope, TypeDefOrRef}
-use Rattle.cli_rows.specs.declared.types.TypeRefRow.{TypeRefRow}
-use Rattle.cli_rows.specs.declared.types.TypeDefRow.{TypeDefRow}
-use Rattle.cli_rows.specs.declared.types.TypeSpecRow.{TypeSpecRow}
-use Rattle.cli_rows.specs.declared.types.NestedClassRow.{NestedClassRow}
-use Rattle.cli_rows.specs.declared.types.InterfaceImplRow.{InterfaceImplRow}
+use Rattle.cli_tables.specs.declared.types.TypeRefRow.{TypeRefRow}
+use Rattle.cli_tables.specs.declared.types.TypeDefRow.{TypeDefRow}
+use Rattle.cli_tables.specs.declared.types.TypeSpecRow.{TypeSpecRow}
+use Rattle.cli_tables.specs.declared.types.NestedClassRow.{NestedClassRow}
+use Rattle.cli_tables.specs.declared.types.InterfaceImplRow.{InterfaceImplRow}
 
 -- TypeRef (II.22.38): ResolutionScope, TypeName, TypeNamespace
 abbrev pub type_ref_of : List ℕ → TypeRefRow

@@ -1,8 +1,8 @@
 -- Modules and assemblies: which column each name is (ECMA-335 II.22). Columns count from 0.
 use Rattle.std.specs.Prelude.{ℕ, List, slice_index}
-use Rattle.cli_rows.specs.declared.assemblies.ModuleRow.{ModuleRow}
-use Rattle.cli_rows.specs.declared.assemblies.AssemblyRow.{AssemblyRow}
-use Rattle.cli_rows.specs.declared.assemblies.AssemblyRefRow.{AssemblyRefRow}
+use Rattle.cli_tables.specs.declared.assemblies.ModuleRow.{ModuleRow}
+use Rattle.cli_tables.specs.declared.assemblies.AssemblyRow.{AssemblyRow}
+use Rattle.cli_tables.specs.declared.assemblies.AssemblyRefRow.{AssemblyRefRow}
 
 -- Module (II.22.30): Generation, Name, Mvid, EncId, EncBaseId
 abbrev pub module_of : List ℕ → ModuleRow

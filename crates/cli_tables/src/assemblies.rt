@@ -15,7 +15,7 @@ pub struct ModuleRow {
 
 impl TableRow for ModuleRow {
     ghost use Rattle.cli_metadata.specs.declared.tables.Table.TheVariants.{Module};
-    ghost use Rattle.cli_rows.specs.Assemblies.{module_of};
+    ghost use Rattle.cli_tables.specs.Assemblies.{module_of};
 
     ghost of_cells = { module_of };
 
@@ -50,7 +50,7 @@ pub struct AssemblyRow {
 
 impl TableRow for AssemblyRow {
     ghost use Rattle.cli_metadata.specs.declared.tables.Table.TheVariants.{Assembly};
-    ghost use Rattle.cli_rows.specs.Assemblies.{assembly_of};
+    ghost use Rattle.cli_tables.specs.Assemblies.{assembly_of};
 
     ghost of_cells = { assembly_of };
 
@@ -89,7 +89,7 @@ pub struct AssemblyRefRow {
 
 impl TableRow for AssemblyRefRow {
     ghost use Rattle.cli_metadata.specs.declared.tables.Table.TheVariants.{AssemblyRef};
-    ghost use Rattle.cli_rows.specs.Assemblies.{assembly_ref_of};
+    ghost use Rattle.cli_tables.specs.Assemblies.{assembly_ref_of};
 
     ghost of_cells = { assembly_ref_of };
 

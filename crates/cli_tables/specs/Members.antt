@@ -1,13 +1,13 @@
 -- Fields, methods and their parameters: which column each name is (ECMA-335 II.22). Columns count from 0.
 use Rattle.std.specs.Prelude.{ℕ, List, slice_index}
 use Rattle.cli_metadata.specs.declared.coded_index.Coded.TheVariants.{HasConstant, MemberRefParent, MethodDefOrRef}
-use Rattle.cli_rows.specs.declared.members.FieldRow.{FieldRow}
-use Rattle.cli_rows.specs.declared.members.MethodDefRow.{MethodDefRow}
-use Rattle.cli_rows.specs.declared.members.ParamRow.{ParamRow}
-use Rattle.cli_rows.specs.declared.members.MemberRefRow.{MemberRefRow}
-use Rattle.cli_rows.specs.declared.members.ConstantRow.{ConstantRow}
-use Rattle.cli_rows.specs.declared.members.StandAloneSigRow.{StandAloneSigRow}
-use Rattle.cli_rows.specs.declared.members.MethodImplRow.{MethodImplRow}
+use Rattle.cli_tables.specs.declared.members.FieldRow.{FieldRow}
+use Rattle.cli_tables.specs.declared.members.MethodDefRow.{MethodDefRow}
+use Rattle.cli_tables.specs.declared.members.ParamRow.{ParamRow}
+use Rattle.cli_tables.specs.declared.members.MemberRefRow.{MemberRefRow}
+use Rattle.cli_tables.specs.declared.members.ConstantRow.{ConstantRow}
+use Rattle.cli_tables.specs.declared.members.StandAloneSigRow.{StandAloneSigRow}
+use Rattle.cli_tables.specs.declared.members.MethodImplRow.{MethodImplRow}
 
 -- Field (II.22.15): Flags, Name, Signature
 abbrev pub field_of : List ℕ → FieldRow

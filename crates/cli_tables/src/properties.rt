@@ -12,7 +12,7 @@ pub struct PropertyMapRow {
 
 impl TableRow for PropertyMapRow {
     ghost use Rattle.cli_metadata.specs.declared.tables.Table.TheVariants.{PropertyMap};
-    ghost use Rattle.cli_rows.specs.Properties.{property_map_of};
+    ghost use Rattle.cli_tables.specs.Properties.{property_map_of};
 
     ghost of_cells = { property_map_of };
 
@@ -38,7 +38,7 @@ pub struct PropertyRow {
 
 impl TableRow for PropertyRow {
     ghost use Rattle.cli_metadata.specs.declared.tables.Table.TheVariants.{Property};
-    ghost use Rattle.cli_rows.specs.Properties.{property_of};
+    ghost use Rattle.cli_tables.specs.Properties.{property_of};
 
     ghost of_cells = { property_of };
 
@@ -65,7 +65,7 @@ pub struct MethodSemanticsRow {
 
 impl TableRow for MethodSemanticsRow {
     ghost use Rattle.cli_metadata.specs.declared.tables.Table.TheVariants.{MethodSemantics};
-    ghost use Rattle.cli_rows.specs.Properties.{method_semantics_of};
+    ghost use Rattle.cli_tables.specs.Properties.{method_semantics_of};
 
     ghost of_cells = { method_semantics_of };
 

@@ -1,9 +1,9 @@
 -- Properties and their accessors: which column each name is (ECMA-335 II.22). Columns count from 0.
 use Rattle.std.specs.Prelude.{ℕ, List, slice_index}
 use Rattle.cli_metadata.specs.declared.coded_index.Coded.TheVariants.{HasSemantics}
-use Rattle.cli_rows.specs.declared.properties.PropertyMapRow.{PropertyMapRow}
-use Rattle.cli_rows.specs.declared.properties.PropertyRow.{PropertyRow}
-use Rattle.cli_rows.specs.declared.properties.MethodSemanticsRow.{MethodSemanticsRow}
+use Rattle.cli_tables.specs.declared.properties.PropertyMapRow.{PropertyMapRow}
+use Rattle.cli_tables.specs.declared.properties.PropertyRow.{PropertyRow}
+use Rattle.cli_tables.specs.declared.properties.MethodSemanticsRow.{MethodSemanticsRow}
 
 -- PropertyMap (II.22.35): Parent, PropertyList
 abbrev pub property_map_of : List ℕ → PropertyMapRow

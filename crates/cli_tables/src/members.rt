@@ -13,7 +13,7 @@ pub struct FieldRow {
 
 impl TableRow for FieldRow {
     ghost use Rattle.cli_metadata.specs.declared.tables.Table.TheVariants.{Field};
-    ghost use Rattle.cli_rows.specs.Members.{field_of};
+    ghost use Rattle.cli_tables.specs.Members.{field_of};
 
     ghost of_cells = { field_of };
 
@@ -43,7 +43,7 @@ pub struct MethodDefRow {
 
 impl TableRow for MethodDefRow {
     ghost use Rattle.cli_metadata.specs.declared.tables.Table.TheVariants.{MethodDef};
-    ghost use Rattle.cli_rows.specs.Members.{method_def_of};
+    ghost use Rattle.cli_tables.specs.Members.{method_def_of};
 
     ghost of_cells = { method_def_of };
 
@@ -73,7 +73,7 @@ pub struct ParamRow {
 
 impl TableRow for ParamRow {
     ghost use Rattle.cli_metadata.specs.declared.tables.Table.TheVariants.{Param};
-    ghost use Rattle.cli_rows.specs.Members.{param_of};
+    ghost use Rattle.cli_tables.specs.Members.{param_of};
 
     ghost of_cells = { param_of };
 
@@ -100,7 +100,7 @@ pub struct MemberRefRow {
 
 impl TableRow for MemberRefRow {
     ghost use Rattle.cli_metadata.specs.declared.tables.Table.TheVariants.{MemberRef};
-    ghost use Rattle.cli_rows.specs.Members.{member_ref_of};
+    ghost use Rattle.cli_tables.specs.Members.{member_ref_of};
 
     ghost of_cells = { member_ref_of };
 
@@ -130,7 +130,7 @@ pub struct ConstantRow {
 
 impl TableRow for ConstantRow {
     ghost use Rattle.cli_metadata.specs.declared.tables.Table.TheVariants.{Constant};
-    ghost use Rattle.cli_rows.specs.Members.{constant_of};
+    ghost use Rattle.cli_tables.specs.Members.{constant_of};
 
     ghost of_cells = { constant_of };
 
@@ -158,7 +158,7 @@ pub struct StandAloneSigRow {
 
 impl TableRow for StandAloneSigRow {
     ghost use Rattle.cli_metadata.specs.declared.tables.Table.TheVariants.{StandAloneSig};
-    ghost use Rattle.cli_rows.specs.Members.{stand_alone_sig_of};
+    ghost use Rattle.cli_tables.specs.Members.{stand_alone_sig_of};
 
     ghost of_cells = { stand_alone_sig_of };
 
@@ -183,7 +183,7 @@ pub struct MethodImplRow {
 
 impl TableRow for MethodImplRow {
     ghost use Rattle.cli_metadata.specs.declared.tables.Table.TheVariants.{MethodImpl};
-    ghost use Rattle.cli_rows.specs.Members.{method_impl_of};
+    ghost use Rattle.cli_tables.specs.Members.{method_impl_of};
 
     ghost of_cells = { method_impl_of };
 

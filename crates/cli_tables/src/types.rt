@@ -13,7 +13,7 @@ pub struct TypeRefRow {
 
 impl TableRow for TypeRefRow {
     ghost use Rattle.cli_metadata.specs.declared.tables.Table.TheVariants.{TypeRef};
-    ghost use Rattle.cli_rows.specs.Types.{type_ref_of};
+    ghost use Rattle.cli_tables.specs.Types.{type_ref_of};
 
     ghost of_cells = { type_ref_of };
 
@@ -46,7 +46,7 @@ pub struct TypeDefRow {
 
 impl TableRow for TypeDefRow {
     ghost use Rattle.cli_metadata.specs.declared.tables.Table.TheVariants.{TypeDef};
-    ghost use Rattle.cli_rows.specs.Types.{type_def_of};
+    ghost use Rattle.cli_tables.specs.Types.{type_def_of};
 
     ghost of_cells = { type_def_of };
 
@@ -77,7 +77,7 @@ pub struct TypeSpecRow {
 
 impl TableRow for TypeSpecRow {
     ghost use Rattle.cli_metadata.specs.declared.tables.Table.TheVariants.{TypeSpec};
-    ghost use Rattle.cli_rows.specs.Types.{type_spec_of};
+    ghost use Rattle.cli_tables.specs.Types.{type_spec_of};
 
     ghost of_cells = { type_spec_of };
 
@@ -101,7 +101,7 @@ pub struct NestedClassRow {
 
 impl TableRow for NestedClassRow {
     ghost use Rattle.cli_metadata.specs.declared.tables.Table.TheVariants.{NestedClass};
-    ghost use Rattle.cli_rows.specs.Types.{nested_class_of};
+    ghost use Rattle.cli_tables.specs.Types.{nested_class_of};
 
     ghost of_cells = { nested_class_of };
 
@@ -126,7 +126,7 @@ pub struct InterfaceImplRow {
 
 impl TableRow for InterfaceImplRow {
     ghost use Rattle.cli_metadata.specs.declared.tables.Table.TheVariants.{InterfaceImpl};
-    ghost use Rattle.cli_rows.specs.Types.{interface_impl_of};
+    ghost use Rattle.cli_tables.specs.Types.{interface_impl_of};
 
     ghost of_cells = { interface_impl_of };
 
