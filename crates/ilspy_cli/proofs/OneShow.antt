@@ -81,7 +81,7 @@ no_name contents None cause p q = q.row p
 no_name contents (Some a) cause p q = not_both_strings contents.strings (name_index contents) a cause p.1 q.none
 
 module _ (one_image : HasOneReading) (no_fault : HasNoFault) (one_fault : HasOneFault)
-  (one-content : metadata.HasOneContent) (no-metadata-fault : metadata.HasNoFault) (one-metadata-fault : metadata.HasOneFault) where
+    (one-content : metadata.HasOneContent) (no-metadata-fault : metadata.HasNoFault) (one-metadata-fault : metadata.HasOneFault) where
   -- an image has one metadata
   one_metadata : (file : List ℕ) (s t : List Section) (m n : Span) → IsImage file s m → IsImage file t n → bytes_in file m ≡ bytes_in file n
   one_metadata file s t m n p q = ap (bytes_in file) (one_image file s t m n p q).1
