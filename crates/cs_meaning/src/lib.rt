@@ -11,6 +11,7 @@
 mod body;
 mod copying;
 mod run;
+mod same;
 mod state;
 #[cfg(test)]
 mod tests;
