@@ -52,8 +52,8 @@ top ways order root v (w ∷ rest) line = line.0
 pub finished : (ways : List (List ℕ)) (order : List ℕ) (v : Visit) → IsVisit ways order v → length (ways_of ways v.at) ≤ v.passed → Ends (IsWay ways) v.at
 finished ways order v visit all =
     ends v.at (λ b way.
-      let lt : way.0 < length (ways_of ways v.at) = slice_get_within _ _ _ way.1 in
-      visit.passed way.0 b (omega arith) way.1)
+    let lt : way.0 < length (ways_of ways v.at) = slice_get_within _ _ _ way.1 in
+    visit.passed way.0 b (omega arith) way.1)
 
 -- one more in the order
 pub at_left : {X : Type 0} (xs ys : List X) (k : ℕ) (y : X) → slice_get xs k ≡ Some y → slice_get (xs ++ ys) k ≡ Some y
@@ -88,24 +88,28 @@ line_more ways order root x v (w ∷ rest) line =
     (visit_more ways order x v line.0, line.1, line_more ways order root x w rest line.2)
 
 pub popped : (ways : List (List ℕ)) (order : List ℕ) (root : ℕ) (v : Visit) (rest : List Visit) → IsLine ways order root (v ∷ rest) → Ends (IsWay ways) v.at → IsLine ways (order ++ (v.at ∷ [])) root rest
-popped ways order root v [] line done =
-    (subst (λ (t : ℕ). Ends (IsWay ways) t) line.1 done,
-     (length order, subst (λ (t : ℕ). slice_get (order ++ (v.at ∷ [])) (length order) ≡ Some t) line.1 (at_end order v.at)))
+popped ways order root v [] line done = (
+  subst (λ (t : ℕ). Ends (IsWay ways) t) line.1 done,
+  (length order, subst (λ (t : ℕ). slice_get (order ++ (v.at ∷ [])) (length order) ≡ Some t) line.1 (at_end order v.at)),
+)
 popped ways order root v (w ∷ rest) line done = line_more ways order root v.at w rest line.2
 
 -- the order goes on with a number whose ways all lead to what is known
 ordered_more : (ways : List (List ℕ)) (order : List ℕ) (x : ℕ) → IsOrderSoFar ways order → x < length ways → ((b : ℕ) → IsWay ways x b → IsKnown ways order b) → IsOrderSoFar ways (order ++ (x ∷ []))
 ordered_more ways order x ordered lt behind = record {
   within = λ k t h. elim (at_push order x k t h) [
-      inl e ↦ ordered.within k t e
-    | inr p ↦ subst (λ (n : ℕ). n < length ways) (sym p.1) lt ];
+    | inl e ↦ ordered.within k t e
+    | inr p ↦ subst (λ (n : ℕ). n < length ways) (sym p.1) lt
+  ];
   above = λ k t b h way inside. elim (at_push order x k t h) [
-      inl e ↦ let place = ordered.above k t b e way inside in (place.0, place.1, at_left order (x ∷ []) place.0 b place.2)
+    | inl e ↦ let place = ordered.above k t b e way inside in (place.0, place.1, at_left order (x ∷ []) place.0 b place.2)
     | inr p ↦ elim (behind b (subst (λ (n : ℕ). IsWay ways n b) p.1 way)) [
-        inl past ↦ absurd (omega arith)
+      | inl past ↦ absurd (omega arith)
       | inr place ↦
           let lt2 = slice_get_within order place.0 b place.1 in
-          (place.0, omega (arith, lt2, p.0), at_left order (x ∷ []) place.0 b place.1) ] ];
+          (place.0, omega (arith, lt2, p.0), at_left order (x ∷ []) place.0 b place.1)
+    ]
+  ];
 }
 
 -- another visit of the same number
@@ -128,8 +132,8 @@ at_root ways order root v (w ∷ rest) line = inr (at_root ways order root w res
 pub round : (ways : List (List ℕ)) (order : List ℕ) (root : ℕ) (v : Visit) (rest : List Visit) (b : ℕ) → IsLine ways order root (v ∷ rest) → IsWay ways v.at b → IsOn (v ∷ rest) b → Ends (IsWay ways) root → ⊥
 round ways order root v rest b line way on over =
     goes_on (IsWay ways) (IsOn (v ∷ rest))
-      (rises ways order root v rest (IsOn (v ∷ rest)) line (b, way, on) (λ s h. h))
-      root over (at_root ways order root v rest line)
+    (rises ways order root v rest (IsOn (v ∷ rest)) line (b, way, on) (λ s h. h))
+    root over (at_root ways order root v rest line)
 
 pub past_ends : (ways : List (List ℕ)) (b : ℕ) → length ways ≤ b → Ends (IsWay ways) b
 past_ends ways b past =
@@ -150,14 +154,18 @@ over ways order root marks v rest walk all =
     record {
       long = omega (arith, length-set marks v.at EndsMark, walk.long);
       known = λ s h. elim (at_set marks v.at EndsMark s EndsMark h) [
-          inl p ↦ (subst (λ (t : ℕ). Ends (IsWay ways) t) (sym p.0) done,
-                   (length order, subst (λ (t : ℕ). slice_get (order ++ (v.at ∷ [])) (length order) ≡ Some t) (sym p.0) (at_end order v.at)))
-        | inr p ↦ let known = walk.known s p.1 in (known.0, (known.1.0, at_left order (v.at ∷ []) known.1.0 s known.1.1)) ];
+        | inl p ↦ (
+          subst (λ (t : ℕ). Ends (IsWay ways) t) (sym p.0) done,
+          (length order, subst (λ (t : ℕ). slice_get (order ++ (v.at ∷ [])) (length order) ≡ Some t) (sym p.0) (at_end order v.at)),
+        )
+        | inr p ↦ let known = walk.known s p.1 in (known.0, (known.1.0, at_left order (v.at ∷ []) known.1.0 s known.1.1))
+      ];
       ordered = ordered_more ways order v.at walk.ordered visit.within
-        (λ b way. let lt = slice_get_within (ways_of ways v.at) way.0 b way.1 in visit.behind way.0 b (omega (arith, lt)) way.1);
+          (λ b way. let lt = slice_get_within (ways_of ways v.at) way.0 b way.1 in visit.behind way.0 b (omega (arith, lt)) way.1);
       walked = λ s h. elim (at_set marks v.at EndsMark s Walked h) [
-          inl p ↦ let k : Walked ≡ EndsMark = p.1 in cc
-        | inr p ↦ elim (walk.walked s p.1) [ inl e ↦ absurd (p.0 (sym e)) | inr on ↦ on ] ];
+        | inl p ↦ let k : Walked ≡ EndsMark = p.1 in cc
+        | inr p ↦ elim (walk.walked s p.1) [ inl e ↦ absurd (p.0 (sym e)) | inr on ↦ on ]
+      ];
       line = popped ways order root v rest walk.line done;
     }
 
@@ -172,20 +180,22 @@ passed_one ways order root marks v u rest b walk same more way found =
     let done : Ends (IsWay ways) b = elim found [ inl none ↦ past_ends ways b (past none) | inr mark ↦ (walk.known b mark).0 ] in
     let known : IsKnown ways order b = elim found [ inl none ↦ inl (past none) | inr mark ↦ inr (walk.known b mark).1 ] in
     let next : IsVisit ways order u = record {
-          within = omega (arith, visit.within, same);
-          passed = λ i t lt h. elim (cases_lt i v.passed) [
-              inl below ↦ visit.passed i t below (rw same at h)
-            | inr above ↦
-                let e : i ≡ v.passed = omega arith in
-                let h2 : slice_get (ways_of ways v.at) v.passed ≡ Some t = subst (λ (j : ℕ). slice_get (ways_of ways v.at) j ≡ Some t) e (rw same at h) in
-                let k : b ≡ t = cc in subst (λ (t : ℕ). Ends (IsWay ways) t) k done ];
-          behind = λ i t lt h. elim (cases_lt i v.passed) [
-              inl below ↦ visit.behind i t below (rw same at h)
-            | inr above ↦
-                let e : i ≡ v.passed = omega arith in
-                let h2 : slice_get (ways_of ways v.at) v.passed ≡ Some t = subst (λ (j : ℕ). slice_get (ways_of ways v.at) j ≡ Some t) e (rw same at h) in
-                let k : b ≡ t = cc in subst (λ (t : ℕ). IsKnown ways order t) k known ];
-        } in
+      within = omega (arith, visit.within, same);
+      passed = λ i t lt h. elim (cases_lt i v.passed) [
+        | inl below ↦ visit.passed i t below (rw same at h)
+        | inr above ↦
+            let e : i ≡ v.passed = omega arith in
+            let h2 : slice_get (ways_of ways v.at) v.passed ≡ Some t = subst (λ (j : ℕ). slice_get (ways_of ways v.at) j ≡ Some t) e (rw same at h) in
+            let k : b ≡ t = cc in subst (λ (t : ℕ). Ends (IsWay ways) t) k done
+      ];
+      behind = λ i t lt h. elim (cases_lt i v.passed) [
+        | inl below ↦ visit.behind i t below (rw same at h)
+        | inr above ↦
+            let e : i ≡ v.passed = omega arith in
+            let h2 : slice_get (ways_of ways v.at) v.passed ≡ Some t = subst (λ (j : ℕ). slice_get (ways_of ways v.at) j ≡ Some t) e (rw same at h) in
+            let k : b ≡ t = cc in subst (λ (t : ℕ). IsKnown ways order t) k known
+      ];
+    } in
     record {
       long = walk.long;
       known = walk.known;
@@ -198,19 +208,21 @@ passed_one ways order root marks v u rest b walk same more way found =
 pub visited : (ways : List (List ℕ)) (order : List ℕ) (root : ℕ) (marks : List Mark) (v u : Visit) (rest : List Visit) → IsWalk ways order root marks (v ∷ rest) → u.passed ≡ 0 → slice_get (ways_of ways v.at) v.passed ≡ Some u.at → slice_get marks u.at ≡ Some New → IsWalk ways order root (set marks u.at Walked) (u ∷ (v ∷ rest))
 visited ways order root marks v u rest walk none way new =
     let next : IsVisit ways order u = record {
-          within = omega (arith, slice_get_within marks u.at New new, walk.long);
-          passed = λ i t lt h. absurd (omega arith);
-          behind = λ i t lt h. absurd (omega arith);
-        } in
+      within = omega (arith, slice_get_within marks u.at New new, walk.long);
+      passed = λ i t lt h. absurd (omega arith);
+      behind = λ i t lt h. absurd (omega arith);
+    } in
     record {
       long = omega (arith, length-set marks u.at Walked, walk.long);
       known = λ s h. elim (at_set marks u.at Walked s EndsMark h) [
-          inl p ↦ let k : EndsMark ≡ Walked = p.1 in cc
-        | inr p ↦ walk.known s p.1 ];
+        | inl p ↦ let k : EndsMark ≡ Walked = p.1 in cc
+        | inr p ↦ walk.known s p.1
+      ];
       ordered = walk.ordered;
       walked = λ s h. elim (at_set marks u.at Walked s Walked h) [
-          inl p ↦ inl (sym p.0)
-        | inr p ↦ inr (walk.walked s p.1) ];
+        | inl p ↦ inl (sym p.0)
+        | inr p ↦ inr (walk.walked s p.1)
+      ];
       line = (next, (v.passed, way), walk.line);
     }
 
@@ -235,17 +247,22 @@ pub begun : (ways : List (List ℕ)) (order : List ℕ) (root : ℕ) (marks : Li
 begun ways order root marks v between new same none = record {
   long = omega (arith, length-set marks root Walked, between.long);
   known = λ s h. elim (at_set marks root Walked s EndsMark h) [
-      inl p ↦ let k : EndsMark ≡ Walked = p.1 in cc
-    | inr p ↦ between.known s p.1 ];
+    | inl p ↦ let k : EndsMark ≡ Walked = p.1 in cc
+    | inr p ↦ between.known s p.1
+  ];
   ordered = between.ordered;
   walked = λ s h. elim (at_set marks root Walked s Walked h) [
-      inl p ↦ inl (same ∙ sym p.0)
-    | inr p ↦ absurd (between.unwalked s p.1) ];
-  line = (record {
-    within = omega (arith, slice_get_within marks root New new, between.long, same);
-    passed = λ i t lt h. absurd (omega arith);
-    behind = λ i t lt h. absurd (omega arith);
-  }, same);
+    | inl p ↦ inl (same ∙ sym p.0)
+    | inr p ↦ absurd (between.unwalked s p.1)
+  ];
+  line = (
+    record {
+      within = omega (arith, slice_get_within marks root New new, between.long, same);
+      passed = λ i t lt h. absurd (omega arith);
+      behind = λ i t lt h. absurd (omega arith);
+    },
+    same,
+  );
 }
 
 -- between two walks again

@@ -13,8 +13,9 @@ at_set (x ∷ xs) zero v (suc j) y h = inr ((λ e. omega arith), h)
 at_set (x ∷ xs) (suc i) v zero y h = inr ((λ e. omega arith), h)
 at_set (x ∷ xs) (suc i) v (suc j) y h =
     elim (at_set xs i v j y h) [
-      inl p ↦ inl (ap suc p.0, p.1)
-    | inr p ↦ inr ((λ e. p.0 (omega arith)), p.1) ]
+      | inl p ↦ inl (ap suc p.0, p.1)
+      | inr p ↦ inr ((λ e. p.0 (omega arith)), p.1)
+    ]
 
 pub set_at : {X : Type 0} (xs : List X) (i : ℕ) (v : X) → i < length xs → slice_get (set xs i v) i ≡ Some v
 set_at [] i v h = absurd (omega arith)

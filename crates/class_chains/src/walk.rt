@@ -64,7 +64,10 @@ fn ends_from(
 {
     let mut stack = Stack::new(alloc);
     marks[root as usize] = Mark::Walked;
-    stack.push(Visit { at: root, passed: 0 })?;
+    stack.push(Visit {
+        at: root,
+        passed: 0,
+    })?;
     while let Some(visit) = stack.pop() {
         match next_way(ways, marks, visit) {
             Next::Finished => {

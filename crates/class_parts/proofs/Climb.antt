@@ -23,16 +23,18 @@ place_of [] k t h = let e : None ≡ Some t = h in cc
 place_of (x ∷ xs) zero t h = let e : x ≡ t = cc in rw (eq-eqb x t e) (omega arith)
 place_of (x ∷ xs) (suc k) t h =
     elim (nat_eq x t) as (λ (v : Bool). cond v 0 (suc (first_place xs t)) ≤ suc k) [
-      true ↦ omega arith
-    | false ↦ omega (arith, place_of xs k t h) ]
+      | true ↦ omega arith
+      | false ↦ omega (arith, place_of xs k t h)
+    ]
 
 at_place : (order : List ℕ) (k t : ℕ) → slice_get order k ≡ Some t → slice_get order (first_place order t) ≡ Some t
 at_place [] k t h = h
 at_place (x ∷ xs) zero t h = let e : x ≡ t = cc in rw (eq-eqb x t e) h
 at_place (x ∷ xs) (suc k) t h =
     elim (nat_eq x t) as (λ (v : Bool). nat_eq x t ≡ v → slice_get (x ∷ xs) (cond v 0 (suc (first_place xs t))) ≡ Some t) [
-      true ↦ λ e. ap Some (eqb-true x t e)
-    | false ↦ λ e. at_place xs k t h ] refl
+      | true ↦ λ e. ap Some (eqb-true x t e)
+      | false ↦ λ e. at_place xs k t h
+    ] refl
 
 -- one number up is nearer to the top
 pub lower : (up : ℕ → ℕ → Type 0) (bound : ℕ) (order : List ℕ) (t b : ℕ) → IsAboveFirst up bound order → t < bound → up t b → height bound order b < height bound order t
@@ -40,12 +42,13 @@ lower up bound order t b first lt way =
     let place = first.all t lt in
     let at = at_place order place.0 t place.1 in
     elim (cases_lt b bound) [
-      inl inside ↦
-        let before = first.above (first_place order t) t b at way inside in
-        let le = place_of order before.0 b before.2 in
-        let higher : suc (first_place order b) < suc (first_place order t) = omega (arith, le, before.1) in
-        rw (lt-ltb t bound lt, lt-ltb b bound inside) higher
-    | inr past ↦ rw (lt-ltb t bound lt, le-ltb b bound past) (omega arith) ]
+      | inl inside ↦
+          let before = first.above (first_place order t) t b at way inside in
+          let le = place_of order before.0 b before.2 in
+          let higher : suc (first_place order b) < suc (first_place order t) = omega (arith, le, before.1) in
+          rw (lt-ltb t bound lt, lt-ltb b bound inside) higher
+      | inr past ↦ rw (lt-ltb t bound lt, le-ltb b bound past) (omega arith)
+    ]
 
 -- what is reached from a number is the number, or is reached from the one above it
 pub reached : (up : ℕ → ℕ → Type 0) (t a : ℕ) → Reaches up t a → (t ≡ a) ⊎ ((b : ℕ) × up t b × Reaches up b a)
@@ -82,14 +85,16 @@ pub climbed : (up : ℕ → ℕ → Type 0) → ((t b d : ℕ) → up t b → up
 climbed up one t at b a climb way apart = record {
   to = λ r. climb.to (further at b a way r);
   from = λ r. elim (reached up at a (climb.from r)) [
-      inl e ↦ absurd (apart e)
-    | inr s ↦ subst (λ (n : ℕ). Reaches up n a) (one at s.0 b s.1 way) s.2 ];
+    | inl e ↦ absurd (apart e)
+    | inr s ↦ subst (λ (n : ℕ). Reaches up n a) (one at s.0 b s.1 way) s.2
+  ];
 }
 
 pub not_reached : (up : ℕ → ℕ → Type 0) (t at a : ℕ) → IsClimb up t at a → ((b : ℕ) → up at b → ⊥) → (at ≡ a → ⊥) → Reaches up t a → ⊥
 not_reached up t at a climb top apart r = elim (reached up at a (climb.from r)) [
-    inl e ↦ apart e
-  | inr s ↦ top s.0 s.1 ]
+  | inl e ↦ apart e
+  | inr s ↦ top s.0 s.1
+]
 
 pub is_reached : (up : ℕ → ℕ → Type 0) (t at a : ℕ) → IsClimb up t at a → at ≡ a → Reaches up t a
 is_reached up t at a climb e = climb.to (subst (λ (n : ℕ). Reaches up at n) e (here at))
@@ -111,5 +116,6 @@ is_apart a b h e = let k : true ≡ false = h ∙ ap not (eq-eqb a b e) in cc
 pub is_same : (a b : ℕ) → false ≡ not (nat_eq a b) → a ≡ b
 is_same a b h =
     elim (nat_eq a b) as (λ (v : Bool). nat_eq a b ≡ v → false ≡ not v → a ≡ b) [
-      true ↦ λ e k. eqb-true a b e
-    | false ↦ λ e k. let n : false ≡ true = k in cc ] refl h
+      | true ↦ λ e k. eqb-true a b e
+      | false ↦ λ e k. let n : false ≡ true = k in cc
+    ] refl h

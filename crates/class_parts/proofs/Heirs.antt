@@ -21,27 +21,28 @@ pub heir_out : (types : List TypeRow) (from_ at o owner : ℕ) (through : Option
 heir_out types from_ at o owner through climb outer off = record {
   to = λ h. climb.to (record { heir = h.heir; round = further at o h.heir outer h.round; derives = h.derives; reached = h.reached });
   back = λ h. let k = climb.back h in elim (reached (IsOuter types) at k.heir k.round) [
-      inl e ↦ absurd (off (subst (λ (n : ℕ). InBaseChain types n owner × IsThrough types through n) (sym e) (k.derives, k.reached)))
+    | inl e ↦ absurd (off (subst (λ (n : ℕ). InBaseChain types n owner × IsThrough types through n) (sym e) (k.derives, k.reached)))
     | inr s ↦ record {
-        heir = k.heir;
-        round = subst (λ (n : ℕ). Reaches (IsOuter types) n k.heir) (one_outer types at s.0 o s.1 outer) s.2;
-        derives = k.derives;
-        reached = k.reached;
-      } ];
+      heir = k.heir;
+      round = subst (λ (n : ℕ). Reaches (IsOuter types) n k.heir) (one_outer types at s.0 o s.1 outer) s.2;
+      derives = k.derives;
+      reached = k.reached;
+    }
+  ];
 }
 
 pub no_heir : (types : List TypeRow) (from_ at owner : ℕ) (through : Option TypeId) → IsHeirClimb types from_ at owner through → ((o : ℕ) → IsOuter types at o → ⊥) → (InBaseChain types at owner × IsThrough types through at → ⊥) → IsHeir types from_ owner through → ⊥
 no_heir types from_ at owner through climb top off h =
     let k = climb.back h in
     elim (reached (IsOuter types) at k.heir k.round) [
-      inl e ↦ off (subst (λ (n : ℕ). InBaseChain types n owner × IsThrough types through n) (sym e) (k.derives, k.reached))
-    | inr s ↦ top s.0 s.1 ]
+      | inl e ↦ off (subst (λ (n : ℕ). InBaseChain types n owner × IsThrough types through n) (sym e) (k.derives, k.reached))
+      | inr s ↦ top s.0 s.1
+    ]
 
 -- the same for a type that is to be open
 pub record IsOpenClimb (types : List TypeRow) (from_ t at : ℕ) : Type 0 where
   pub to : IsOpen types from_ at → IsOpen types from_ t
   pub back : IsOpen types from_ t → IsOpen types from_ at
-
 
 -- how a type is open
 abbrev pub IsOpenSo : List TypeRow → ℕ → ℕ → Type 0
@@ -65,19 +66,22 @@ pub open_out : (types : List TypeRow) (from_ t at o : ℕ) → IsOpenClimb types
 open_out types from_ t at o climb outer may = record {
   to = λ h. climb.to (nested at o outer may h);
   back = λ h. elim (opened types from_ at (climb.back h)) [
-      inl top ↦ absurd (no_outer types at o outer top.row top.stands top.is.0)
-    | inr s ↦ subst (λ (n : ℕ). IsOpen types from_ n) (one_outer types at s.0 o s.1 outer) s.3 ];
+    | inl top ↦ absurd (no_outer types at o outer top.row top.stands top.is.0)
+    | inr s ↦ subst (λ (n : ℕ). IsOpen types from_ n) (one_outer types at s.0 o s.1 outer) s.3
+  ];
 }
 
 pub not_open : (types : List TypeRow) (from_ t at o : ℕ) → IsOpenClimb types from_ t at → IsOuter types at o → (HasType types at (λ row. MayName types row.access o from_ None) → ⊥) → IsOpen types from_ t → ⊥
 not_open types from_ t at o climb outer may h = elim (opened types from_ at (climb.back h)) [
-    inl top ↦ no_outer types at o outer top.row top.stands top.is.0
-  | inr s ↦ may (subst (λ (n : ℕ). HasType types at (λ row. MayName types row.access n from_ None)) (one_outer types at s.0 o s.1 outer) s.2) ]
+  | inl top ↦ no_outer types at o outer top.row top.stands top.is.0
+  | inr s ↦ may (subst (λ (n : ℕ). HasType types at (λ row. MayName types row.access n from_ None)) (one_outer types at s.0 o s.1 outer) s.2)
+]
 
 pub open_top : (types : List TypeRow) (from_ t at : ℕ) → IsOpenClimb types from_ t at → HasType types at (λ row. (row.outer ≡ None) × ((row.access ≡ Public) ⊎ (row.own ≡ true))) → IsOpen types from_ t
 open_top types from_ t at climb top = climb.to (at_top at top)
 
 pub closed_top : (types : List TypeRow) (from_ t at : ℕ) → IsOpenClimb types from_ t at → ((o : ℕ) → IsOuter types at o → ⊥) → IsOpen types from_ t → HasType types at (λ row. (row.outer ≡ None) × ((row.access ≡ Public) ⊎ (row.own ≡ true)))
 closed_top types from_ t at climb none h = elim (opened types from_ at (climb.back h)) [
-    inl top ↦ top
-  | inr s ↦ absurd (none s.0 s.1) ]
+  | inl top ↦ top
+  | inr s ↦ absurd (none s.0 s.1)
+]

@@ -61,8 +61,9 @@ pub way_is_above : (types : List TypeRow) (t b : ℕ) → IsWay (map numbers_abo
 way_is_above types t b way =
     let h = of_row numbers_above types t b way in
     elim (in_above h.row.base h.row.bases b h.is.0 h.is.1) [
-      inl e ↦ inl (record { row = h.row; stands = h.stands; is = e })
-    | inr at ↦ inr (record { row = h.row; stands = h.stands; is = at }) ]
+      | inl e ↦ inl (record { row = h.row; stands = h.stands; is = e })
+      | inr at ↦ inr (record { row = h.row; stands = h.stands; is = at })
+    ]
 
 pub above_is_way : (types : List TypeRow) (t b : ℕ) → IsAbove types t b → IsWay (map numbers_above types) t b
 above_is_way types t b (inl base) = from_row numbers_above types t b base.row base.stands 0 (above_base base.row.base base.row.bases b base.is)
@@ -78,7 +79,7 @@ way_is_outer types t b way =
 pub outer_is_way : (types : List TypeRow) (t b : ℕ) → IsOuter types t b → IsWay (map numbers_round types) t b
 outer_is_way types t b outer =
     from_row numbers_round types t b outer.row outer.stands 0
-      (let e = outer.is in subst (λ (o : Option TypeId). slice_get (number_of o) 0 ≡ Some b) (sym e) refl)
+    (let e = outer.is in subst (λ (o : Option TypeId). slice_get (number_of o) 0 ≡ Some b) (sym e) refl)
 
 -- what a walk says of the lists is said of the types
 ok_map : {A E : Type 0} (P Q : A → Type 0) → ((a : A) → P a → Q a) → (r : Result A E) → IfOk r P → IfOk r Q
@@ -119,8 +120,9 @@ cycle_of_base types t all first = record {
 pub cycle_of_both : (types : List TypeRow) (b o : ℕ) → IsFirstOpen (IsAbove types) b → IsFirstOpen (IsOuter types) o → IsFirstCycle types (record { 0 = min b o })
 cycle_of_both types b o base outer = record {
   cycle = λ both. elim (cases_lt b o) [
-      inl lt ↦ let e : min b o ≡ b = omega arith in base.open_ (subst (λ (t : ℕ). Ends (IsAbove types) t) e both.0)
-    | inr le ↦ let e : min b o ≡ o = omega arith in outer.open_ (subst (λ (t : ℕ). Ends (IsOuter types) t) e both.1) ];
+    | inl lt ↦ let e : min b o ≡ b = omega arith in base.open_ (subst (λ (t : ℕ). Ends (IsAbove types) t) e both.0)
+    | inr le ↦ let e : min b o ≡ o = omega arith in outer.open_ (subst (λ (t : ℕ). Ends (IsOuter types) t) e both.1)
+  ];
   before = λ s lt. (base.before s (omega arith), outer.before s (omega arith));
 }
 

@@ -38,7 +38,13 @@ fn is_through(types: &[TypeRow], orders: &Orders, through: Option<TypeId>, heir:
 }
 
 // Whether this very type is the owner or derives from it, and what is reached goes through it.
-fn fits(types: &[TypeRow], orders: &Orders, heir: TypeId, owner: TypeId, through: Option<TypeId>) -> bool
+fn fits(
+    types: &[TypeRow],
+    orders: &Orders,
+    heir: TypeId,
+    owner: TypeId,
+    through: Option<TypeId>,
+) -> bool
     requires { AreOrders types.now orders.now }
     ensures yes { IsTrue result → InBaseChain types.now heir.0 owner.0 × IsThrough types.now through heir.0 }
     ensures no { InBaseChain types.now heir.0 owner.0 × IsThrough types.now through heir.0 → IsTrue result }
@@ -46,7 +52,13 @@ fn fits(types: &[TypeRow], orders: &Orders, heir: TypeId, owner: TypeId, through
     derives(types, orders.bases.items(), heir, owner) && is_through(types, orders, through, heir)
 }
 
-fn is_heir(types: &[TypeRow], orders: &Orders, from: TypeId, owner: TypeId, through: Option<TypeId>) -> bool
+fn is_heir(
+    types: &[TypeRow],
+    orders: &Orders,
+    from: TypeId,
+    owner: TypeId,
+    through: Option<TypeId>,
+) -> bool
     requires { AreOrders types.now orders.now }
     ensures yes { IsTrue result → IsHeir types.now from.0 owner.0 through }
     ensures no { IsHeir types.now from.0 owner.0 through → IsTrue result }

@@ -7,6 +7,7 @@ use std::alloc::Global;
 use std::test::Fail;
 
 // The numbers that a type names: its outer type, its base, and an interface.
+#[derive(Clone, Copy)]
 struct Names {
     outer: Option<u32>,
     base: Option<u32>,
@@ -62,7 +63,7 @@ fn orders(alloc: Global, table: &[Names]) -> Result<Orders, Or<TypeId>> {
     orders_of(alloc, types.as_slice())
 }
 
-fn names(outer: Option<u32>, base: Option<u32>, interface: Option<u32>) -> Names {
+fn naming(outer: Option<u32>, base: Option<u32>, interface: Option<u32>) -> Names {
     Names {
         outer,
         base,
@@ -75,26 +76,26 @@ fn tells_the_first_type_whose_chain_goes_on(rt: HostRuntime) -> Result<(), Fail>
     let alloc = rt.alloc();
     // A chain of bases and one of outer types, a type that derives from the one round it, a base past the list.
     let ends = [
-        names(None, None, None),
-        names(None, Some(0), None),
-        names(Some(1), Some(1), Some(4)),
-        names(Some(2), Some(9), None),
-        names(None, None, None),
+        naming(None, None, None),
+        naming(None, Some(0), None),
+        naming(Some(1), Some(1), Some(4)),
+        naming(Some(2), Some(9), None),
+        naming(None, None, None),
     ];
     assert!(rt; orders(alloc, &ends)?.bases.items() == [0, 1, 4, 2, 3].as_slice());
     // Two bases of one another, and a lesser type nested in itself.
     let both = [
-        names(None, None, None),
-        names(Some(1), None, None),
-        names(None, Some(3), None),
-        names(None, Some(2), None),
+        naming(None, None, None),
+        naming(Some(1), None, None),
+        naming(None, Some(3), None),
+        naming(None, Some(2), None),
     ];
     assert_eq!(rt; fault(alloc, &both), Some(TypeId(1)));
     // Interfaces that name one another; the type that names them is the least.
     let interfaces = [
-        names(None, None, Some(1)),
-        names(None, None, Some(2)),
-        names(None, None, Some(1)),
+        naming(None, None, Some(1)),
+        naming(None, None, Some(2)),
+        naming(None, None, Some(1)),
     ];
     assert_eq!(rt; fault(alloc, &interfaces), Some(TypeId(0)));
     Ok(())
@@ -114,36 +115,65 @@ fn tells_from_where_a_member_may_be_named(rt: HostRuntime) -> Result<(), Fail> {
     let mut types = types_of(
         alloc,
         &[
-            names(None, None, None),
-            names(Some(0), None, None),
-            names(None, Some(0), None),
-            names(Some(2), None, None),
-            names(None, None, None),
-            names(None, Some(2), None),
+            naming(None, None, None),
+            naming(Some(0), None, None),
+            naming(None, Some(0), None),
+            naming(Some(2), None, None),
+            naming(None, None, None),
+            naming(None, Some(2), None),
         ],
     )?;
-    types.push(type_row(alloc, &names(None, Some(0), None), Access::Public, false)?)?;
+    types.push(type_row(alloc, &naming(None, Some(0), None), Access::Public, false)?)?;
     let orders = orders_of(alloc, types.as_slice())?;
     // For each access, from which types it is open, without a type that it goes through.
     let table = [
-        (Access::Private, [true, true, false, false, false, false, false]),
-        (Access::PrivateProtected, [true, true, true, true, false, true, false]),
-        (Access::Internal, [true, true, true, true, true, true, false]),
-        (Access::Protected, [true, true, true, true, false, true, true]),
-        (Access::ProtectedInternal, [true, true, true, true, true, true, true]),
+        (
+            Access::Private,
+            [true, true, false, false, false, false, false],
+        ),
+        (
+            Access::PrivateProtected,
+            [true, true, true, true, false, true, false],
+        ),
+        (
+            Access::Internal,
+            [true, true, true, true, true, true, false],
+        ),
+        (
+            Access::Protected,
+            [true, true, true, true, false, true, true],
+        ),
+        (
+            Access::ProtectedInternal,
+            [true, true, true, true, true, true, true],
+        ),
         (Access::Public, [true, true, true, true, true, true, true]),
     ];
     for (access, want) in table {
         let members = [member_row(alloc, 0, access)?];
         for (from, want) in want.iter().enumerate() {
-            let open = accessible(&types, &members, &orders, TypeId(from as u32), MemberId(0), None);
+            let open = accessible(
+                &types,
+                &members,
+                &orders,
+                TypeId(from as u32),
+                MemberId(0),
+                None,
+            );
             assert_eq!(rt; open, *want, "{access:?} from {from}");
         }
     }
     // Through a type: a protected member of 0 from 3, which is nested in the heir 2.
     let members = [member_row(alloc, 0, Access::Protected)?];
     for (through, want) in [(0, false), (2, true), (5, true), (4, false)] {
-        let open = accessible(&types, &members, &orders, TypeId(3), MemberId(0), Some(TypeId(through)));
+        let open = accessible(
+            &types,
+            &members,
+            &orders,
+            TypeId(3),
+            MemberId(0),
+            Some(TypeId(through)),
+        );
         assert_eq!(rt; open, want, "through {through}");
     }
     Ok(())
@@ -153,11 +183,16 @@ fn tells_from_where_a_member_may_be_named(rt: HostRuntime) -> Result<(), Fail> {
 fn a_member_of_a_hidden_type_is_hidden(rt: HostRuntime) -> Result<(), Fail> {
     let alloc = rt.alloc();
     let mut types = Vec::new(alloc);
-    types.push(type_row(alloc, &names(None, None, None), Access::Public, false)?)?;
-    types.push(type_row(alloc, &names(Some(0), None, None), Access::Protected, false)?)?;
-    types.push(type_row(alloc, &names(None, None, None), Access::Internal, false)?)?;
-    types.push(type_row(alloc, &names(None, Some(0), None), Access::Internal, true)?)?;
-    types.push(type_row(alloc, &names(None, None, None), Access::Public, true)?)?;
+    types.push(type_row(alloc, &naming(None, None, None), Access::Public, false)?)?;
+    types.push(type_row(
+        alloc,
+        &naming(Some(0), None, None),
+        Access::Protected,
+        false,
+    )?)?;
+    types.push(type_row(alloc, &naming(None, None, None), Access::Internal, false)?)?;
+    types.push(type_row(alloc, &naming(None, Some(0), None), Access::Internal, true)?)?;
+    types.push(type_row(alloc, &naming(None, None, None), Access::Public, true)?)?;
     let orders = orders_of(alloc, types.as_slice())?;
     let members = [
         member_row(alloc, 1, Access::Public)?,

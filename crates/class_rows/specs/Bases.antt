@@ -24,10 +24,8 @@ MemberNames row n = TyNames row.result n ⊎ ((k : ℕ) × (p : Param) × (slice
 pub record BasesFit (types : List TypeRow) (members : List MemberRow) (t : ℕ) : Type 0 where
   -- the base is a class that is there and not sealed
   pub base : (b : ℕ) → IsBase types t b → HasType types b (λ row. (row.kind ≡ Class) × (row.is_sealed ≡ false))
-
   -- what it names as interfaces are interfaces that are there
   pub interfaces : (i : ℕ) → IsNamed types t i → HasType types i (λ row. row.kind ≡ Interface)
-
   -- where it is a type of the references, the types that its members name are there
   pub own_members : IsReference types t → (m n : ℕ) → HasMember members m (λ row. (row.owner ≡ record { 0 = t }) × MemberNames row n) → n < length types
 

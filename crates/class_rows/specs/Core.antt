@@ -24,13 +24,13 @@ Meets types an_exception t =
 abbrev pub core_types : List (List ℕ × Demand)
 core_types =
     (codes "Object", any) ∷ (codes "ValueType", any) ∷ (codes "Enum", any) ∷ (codes "Array", any)
-  ∷ (codes "String", any) ∷ (codes "Delegate", any) ∷ (codes "MulticastDelegate", any) ∷ (codes "Exception", a_class)
-  ∷ (codes "Boolean", any) ∷ (codes "Char", any) ∷ (codes "SByte", any) ∷ (codes "Byte", any)
-  ∷ (codes "Int16", any) ∷ (codes "UInt16", any) ∷ (codes "Int32", any) ∷ (codes "UInt32", any)
-  ∷ (codes "Int64", any) ∷ (codes "UInt64", any)
-  ∷ (codes "NullReferenceException", an_exception) ∷ (codes "InvalidCastException", an_exception)
-  ∷ (codes "IndexOutOfRangeException", an_exception) ∷ (codes "ArrayTypeMismatchException", an_exception)
-  ∷ (codes "OverflowException", an_exception) ∷ (codes "DivideByZeroException", an_exception) ∷ []
+    ∷ (codes "String", any) ∷ (codes "Delegate", any) ∷ (codes "MulticastDelegate", any) ∷ (codes "Exception", a_class)
+    ∷ (codes "Boolean", any) ∷ (codes "Char", any) ∷ (codes "SByte", any) ∷ (codes "Byte", any)
+    ∷ (codes "Int16", any) ∷ (codes "UInt16", any) ∷ (codes "Int32", any) ∷ (codes "UInt32", any)
+    ∷ (codes "Int64", any) ∷ (codes "UInt64", any)
+    ∷ (codes "NullReferenceException", an_exception) ∷ (codes "InvalidCastException", an_exception)
+    ∷ (codes "IndexOutOfRangeException", an_exception) ∷ (codes "ArrayTypeMismatchException", an_exception)
+    ∷ (codes "OverflowException", an_exception) ∷ (codes "DivideByZeroException", an_exception) ∷ []
 
 -- this is the core type of this number
 pub record IsCore (types : List TypeRow) (k t : ℕ) : Type 0 where

@@ -50,7 +50,7 @@ pub record HasNameOfNested (types : List TypeRow) (members : List MemberRow) (ex
 pub record IsWithoutFields (types : List TypeRow) (t : ℕ) : Type 0 where
   pub some : HasType types t (λ row. row.kind ≡ Interface) ⊎ ((s : ℕ) × InBaseChain types s t × (
       IsSystem types (codes "Object") s ⊎ IsSystem types (codes "ValueType") s ⊎ IsSystem types (codes "Enum") s
-    ⊎ IsSystem types (codes "Array") s ⊎ IsSystem types (codes "String") s))
+      ⊎ IsSystem types (codes "Array") s ⊎ IsSystem types (codes "String") s))
 
 -- it is an instance field of such a type
 abbrev pub IsMisplaced : List TypeRow → List MemberRow → ℕ → Type 0

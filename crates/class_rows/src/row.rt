@@ -136,4 +136,3 @@ pub struct MemberRow {
     pub params: Seq<Param>,
     pub result: Ty,
 }
-

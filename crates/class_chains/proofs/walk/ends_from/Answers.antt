@@ -17,7 +17,7 @@ pub loop-visit-smaller : goal.loop-visit-smaller
 loop-visit-smaller c =
     let walk = rw c.in-Some.ensures at c.loop-visit.invariant.walk in
     rw (c.in_ok-push-in-Fresh-2.ensures.ok, c.in_ok-push-in-Fresh.ensures.ok, c.in-Some.ensures)
-      (visited-smaller _ _ c.args.root _ c.in-Some.visit _ c.pop.new.self walk refl c.in-Fresh.ensures.1)
+    (visited-smaller _ _ c.args.root _ c.in-Some.visit _ c.pop.new.self walk refl c.in-Fresh.ensures.1)
 
 pub loop-visit-preserved : goal.loop-visit-preserved
 loop-visit-preserved c =
@@ -25,7 +25,7 @@ loop-visit-preserved c =
     let walk = rw c.in-Some.ensures at c.loop-visit.invariant.walk in
     record {
       walk = rw (c.in_ok-push-in-Fresh-2.ensures.ok, c.in_ok-push-in-Fresh.ensures.ok)
-        (visited _ _ c.args.root _ c.in-Some.visit _ c.pop.new.self walk refl f.0 f.1);
+          (visited _ _ c.args.root _ c.in-Some.visit _ c.pop.new.self walk refl f.0 f.1);
       kept = c.loop-visit.invariant.kept;
     }
 
@@ -44,7 +44,7 @@ pub loop-visit-smaller-in-Continue-branch-3 : goal.loop-visit-smaller-in-Continu
 loop-visit-smaller-in-Continue-branch-3 c =
     let f = c.in-Ended.ensures in
     rw (c.in_ok-push-in-Ended.ensures.ok, c.in-Some.ensures)
-      (passed_one-smaller _ c.in-Some.visit _ c.pop.new.self _ f.0 refl f.1 f.2)
+    (passed_one-smaller _ c.in-Some.visit _ c.pop.new.self _ f.0 refl f.1 f.2)
 
 pub loop-visit-preserved-in-Continue-branch-3 : goal.loop-visit-preserved-in-Continue-branch-3
 loop-visit-preserved-in-Continue-branch-3 c =
