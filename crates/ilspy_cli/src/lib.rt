@@ -25,6 +25,7 @@
 
 mod answer;
 mod dir_shelf;
+mod disk;
 mod due;
 mod escape;
 mod lines;
@@ -37,8 +38,9 @@ mod taking;
 mod words;
 
 pub use dir_shelf::DirShelf;
+pub use disk::{Disk, SystemDisk};
 pub use due::one_due;
-pub use out_sink::OutSink;
+pub use out_sink::{OutSink, Output, SystemOutput};
 pub use program::run;
 pub use status::Status;
 pub use words::process_words;
