@@ -10,12 +10,13 @@ use Rattle.cil_instruction.specs.declared.instruction.Instr.{Instr}
 use Rattle.cil_instruction.specs.declared.fault.BodyFault.{BodyFault}
 use Rattle.cil_instruction.specs.declared.fault.BodyCause.{BodyCause}
 use Rattle.cil_instruction.specs.declared.fault.BodyCause.TheVariants.{BadHeader, TooLong, Truncated, BadOpcode, OutOfProfile, BadTarget, BadSection, OutOfProfileClause}
-use Rattle.cil_body.specs.First.{IsFirstOff}
+use Rattle.dc_causes.specs.First.{IsFirstOff}
 use Rattle.cil_instruction.specs.Laws.{IsCutCause}
 use Rattle.cil_instruction.proofs.Consequences.{cause_is_of_cut}
 use Rattle.cil_body.specs.Code.{Placed, Reads, IsWhole, IsCode, IsAimed, IsCutFault, IsAimFault, AreInOrder, code_of, starts_of, instr_of}
 use Rattle.cil_body.specs.Section.{AreClauses, IsSectionFault, IsTaken, all_clauses, IsClause, IsBadSection, sections_place}
-use Rattle.cil_body.specs.Body.{IsBody, IsRefused, IsWrong, IsClauseFault, IsAimedCode, HasClauses, StopsAt, clause_of}
+use Rattle.dc_causes.specs.Answer.{IsRefused}
+use Rattle.cil_body.specs.Body.{IsBody, IsBodyFault, IsWrong, IsClauseFault, IsAimedCode, HasClauses, StopsAt, clause_of}
 
 -- ---- the places of the instructions rise
 
@@ -68,7 +69,7 @@ stops_at bytes limit place BadSection is stops = absurd is
 stops_at bytes limit place (OutOfProfileClause kind) is stops = absurd is
 
 -- the cut of the code stops
-pub cut_refused : {bytes : List ℕ} {limit : ℕ} {h : Header} (code : List ℕ) → IsWhole bytes limit h → code ≡ code_of bytes h → (e : Or BodyFault) → IsCutFault code h.start e → IsRefused bytes limit e
+pub cut_refused : {bytes : List ℕ} {limit : ℕ} {h : Header} (code : List ℕ) → IsWhole bytes limit h → code ≡ code_of bytes h → (e : Or BodyFault) → IsCutFault code h.start e → IsRefused (IsBodyFault bytes limit) e
 cut_refused code whole is NoMemory f = tt
 cut_refused {bytes = bytes} {limit = limit} {h = h} code whole is (Fault fault) (placed, at, rest, reads, more, none, place) =
     let all : Reads 0 (code_of bytes h) placed at rest = subst (λ (x : List ℕ). Reads 0 x placed at rest) is reads in
@@ -78,7 +79,7 @@ cut_refused {bytes = bytes} {limit = limit} {h = h} code whole is (Fault fault) 
 -- ---- where the instructions lead
 
 -- an instruction leads to a place at which none starts
-pub aim_refused : {bytes : List ℕ} {limit : ℕ} {h : Header} {code : List ℕ} {placed : List Placed} → IsRead bytes limit h code placed → {ps : List Placed} → ps ≡ placed → (e : Or BodyFault) → IsAimFault code ps h.start e → IsRefused bytes limit e
+pub aim_refused : {bytes : List ℕ} {limit : ℕ} {h : Header} {code : List ℕ} {placed : List Placed} → IsRead bytes limit h code placed → {ps : List Placed} → ps ≡ placed → (e : Or BodyFault) → IsAimFault code ps h.start e → IsRefused (IsBodyFault bytes limit) e
 aim_refused r same NoMemory f = tt
 aim_refused {bytes = bytes} {limit = limit} {h = h} {code = code} {placed = placed} r same (Fault fault) (x, off, cause, place) =
     let here : IsFirstOff (IsAimed code (starts_of placed)) placed x = subst (λ (q : List Placed). IsFirstOff (IsAimed code (starts_of q)) q x) same off in
@@ -98,7 +99,7 @@ is_aimed {bytes = bytes} {limit = limit} {h = h} {code = code} {placed = placed}
 -- ---- the sections and the clauses
 
 -- the sections have a fault
-pub section_refused : {bytes : List ℕ} {limit : ℕ} {h : Header} {placed : List Placed} → IsAimedCode bytes limit h placed → {starts : List ℕ} → starts ≡ starts_of placed → (e : Or BodyFault) → IsSectionFault bytes h starts e → IsRefused bytes limit e
+pub section_refused : {bytes : List ℕ} {limit : ℕ} {h : Header} {placed : List Placed} → IsAimedCode bytes limit h placed → {starts : List ℕ} → starts ≡ starts_of placed → (e : Or BodyFault) → IsSectionFault bytes h starts e → IsRefused (IsBodyFault bytes limit) e
 section_refused aimed begin NoMemory f = tt
 section_refused {bytes = bytes} {limit = limit} {h = h} {placed = placed} aimed begin (Fault fault) (has, cause, bad) =
     subst (λ (why : BodyCause). IsWrong bytes limit fault.at why) (sym cause)
@@ -114,7 +115,7 @@ has_clauses {bytes = bytes} {h = h} aimed {starts = starts} begin raw are =
     }
 
 -- a clause isn't taken
-pub clause_refused : {bytes : List ℕ} {limit : ℕ} {h : Header} {placed : List Placed} → IsAimedCode bytes limit h placed → {starts : List ℕ} → starts ≡ starts_of placed → {rs raw : List RawClause} → rs ≡ raw → AreClauses bytes h starts raw → (e : Or BodyFault) → IsClauseFault rs e → IsRefused bytes limit e
+pub clause_refused : {bytes : List ℕ} {limit : ℕ} {h : Header} {placed : List Placed} → IsAimedCode bytes limit h placed → {starts : List ℕ} → starts ≡ starts_of placed → {rs raw : List RawClause} → rs ≡ raw → AreClauses bytes h starts raw → (e : Or BodyFault) → IsClauseFault rs e → IsRefused (IsBodyFault bytes limit) e
 clause_refused aimed begin same are NoMemory f = tt
 clause_refused {bytes = bytes} {limit = limit} {h = h} {placed = placed} aimed begin {raw = raw} same are (Fault fault) (x, off, cause, place) =
     let off' : IsFirstOff IsTaken (all_clauses bytes are.0) x = subst (λ (cs : List RawClause). IsFirstOff IsTaken cs x) (same ∙ are.2) off in

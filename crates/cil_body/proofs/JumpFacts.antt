@@ -17,11 +17,11 @@ use Rattle.cil_instruction.specs.declared.opcode.Operand.TheVariants.{Target8, T
 use Rattle.cil_instruction.specs.declared.instruction.Found.{Found}
 use Rattle.cil_instruction.specs.Instruction.{number_of, instruction_at, numbers}
 use Rattle.cil_body.specs.Code.{Placed, AreInOrder, HasCases, jumps_by, aim_of, place_of, HasAim, IsAimed, IsTarget, IsInstr, AreTargets, IsAimFault, instr_of, starts_of}
-use Rattle.cil_body.specs.First.{IsFirstOff}
+use Rattle.dc_causes.specs.First.{IsFirstOff}
 use Rattle.cil_instruction.specs.declared.instruction.Instr.{Instr}
 use Rattle.cil_instruction.specs.declared.fault.BodyCause.TheVariants.{BadTarget}
 use Rattle.dc_base.specs.declared.failure.Or.TheVariants.{Fault}
-use Rattle.cil_body.proofs.FirstFacts.{first_off}
+use Rattle.dc_causes.proofs.First.{first_off}
 use Rattle.cil_instruction.proofs.Consequences.{stands_within, switch_has_cases, operand_is_spelled}
 
 -- what a search among the starts finds

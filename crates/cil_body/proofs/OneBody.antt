@@ -8,12 +8,12 @@ use Rattle.cil_body.specs.declared.body.Body.{Body}
 use Rattle.cil_instruction.specs.declared.fault.BodyFault.{BodyFault}
 use Rattle.cil_instruction.specs.declared.fault.BodyCause.{BodyCause}
 use Rattle.cil_instruction.specs.declared.fault.BodyCause.TheVariants.{BadHeader, TooLong, Truncated, BadOpcode, OutOfProfile, BadTarget, BadSection, OutOfProfileClause}
-use Rattle.cil_body.specs.First.{IsFirstOff}
+use Rattle.dc_causes.specs.First.{IsFirstOff}
 use Rattle.cil_body.specs.Header.{IsHeader, IsBadHeader}
 use Rattle.cil_body.specs.Code.{Placed, IsWhole, IsCode, IsAimed, code_of, starts_of}
 use Rattle.cil_body.specs.Section.{HasSections, AreSections, all_clauses, sections_place, IsClause, IsTaken, IsBadSection}
 use Rattle.cil_body.specs.Body.{IsAimedCode, HasClauses, body_of, IsBody, IsTooLong, IsShort, StopsAt, IsBadTarget, HasBadSection, IsLeftOutClause, IsWrong, IsBodyFault}
-use Rattle.cil_body.proofs.First.{not_off, one_first}
+use Rattle.dc_causes.proofs.First.{not_off, one_first}
 use Rattle.cil_body.proofs.OneHeader.{one_header, no_bad_header, one_bad_header}
 use Rattle.cil_body.proofs.OneCode.{one_code, stops_not, one_stop}
 use Rattle.cil_body.proofs.OneChain.{one_list, no_bad_section, one_bad_section}

@@ -4,9 +4,9 @@ use Rattle.std.proofs.lemmas.List.{get_or-append-add, get_or_append_left}
 use Rattle.std.proofs.lemmas.List.Concat.{flat_map-append}
 use Rattle.cil_body.specs.declared.section.Section.{Section}
 use Rattle.cil_body.specs.declared.section.RawClause.{RawClause}
-use Rattle.cil_body.specs.First.{IsFirstOff}
+use Rattle.dc_causes.specs.First.{IsFirstOff}
 use Rattle.cil_body.specs.Section.{IsSection, Chained, AreSections, clauses_of, all_clauses, IsClause, IsWrongSection, IsBadSection}
-use Rattle.cil_body.proofs.First.{not_off, one_first}
+use Rattle.dc_causes.proofs.First.{not_off, one_first}
 
 -- at one place stands one section
 pub one_section : (bytes : List ℕ) (at : ℕ) (s t : Section) → IsSection bytes at s → IsSection bytes at t → s ≡ t

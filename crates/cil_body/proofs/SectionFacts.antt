@@ -14,7 +14,7 @@ use Rattle.cil_body.specs.declared.section.RawClause.{RawClause}
 use Rattle.cil_instruction.specs.declared.fault.BodyFault.{BodyFault}
 use Rattle.dc_base.specs.declared.failure.Or.{Or}
 use Rattle.dc_base.specs.declared.failure.Or.TheVariants.{NoMemory, Fault}
-use Rattle.cil_body.specs.First.{IsFirstOff}
+use Rattle.dc_causes.specs.First.{IsFirstOff}
 use Rattle.cil_body.specs.Code.{AreInOrder}
 use Rattle.cil_body.specs.Section.{IsBound, IsClause, IsSection, AreClauses, IsBadSection, IsSectionFault, IsClauseBroken, clause_width, clause_at, clauses_from, clauses_of, all_clauses, Chained, AreSections, HasSections, sections_place}
 

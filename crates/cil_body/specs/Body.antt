@@ -12,7 +12,7 @@ use Rattle.cil_body.specs.declared.body.ClauseKind.TheVariants.{Catch, Finally}
 use Rattle.cil_instruction.specs.declared.fault.BodyFault.{BodyFault}
 use Rattle.cil_instruction.specs.declared.fault.BodyCause.{BodyCause}
 use Rattle.cil_instruction.specs.declared.fault.BodyCause.TheVariants.{BadHeader, TooLong, Truncated, BadOpcode, OutOfProfile, BadTarget, BadSection, OutOfProfileClause}
-use Rattle.cil_body.specs.First.{IsFirstOff}
+use Rattle.dc_causes.specs.First.{IsFirstOff}
 use Rattle.cil_body.specs.Header.{IsHeader, IsBadHeader}
 use Rattle.cil_body.specs.Code.{Placed, IsCode, IsStop, IsAimed, code_of, starts_of, instr_of}
 use Rattle.cil_body.specs.Section.{HasSections, all_clauses, sections_place, IsClause, IsTaken, IsBadSection}
@@ -116,8 +116,3 @@ IsWrong bytes limit place (OutOfProfileClause kind) = IsLeftOutClause bytes limi
 -- the bytes' fault
 abbrev pub IsBodyFault : List ℕ → ℕ → BodyFault → Type 0
 IsBodyFault bytes limit fault = IsWrong bytes limit fault.at fault.cause
-
--- the fault of a call, unless it wanted memory
-abbrev pub IsRefused : List ℕ → ℕ → Or BodyFault → Type 0
-IsRefused bytes limit NoMemory = Unit {0}
-IsRefused bytes limit (Fault fault) = IsBodyFault bytes limit fault

@@ -12,7 +12,7 @@ use Rattle.cil_instruction.specs.declared.fault.BodyCause.{BodyCause}
 use Rattle.cil_instruction.specs.declared.fault.BodyCause.TheVariants.{BadTarget}
 use Rattle.cil_instruction.specs.declared.instruction.Instr.{Instr}
 use Rattle.cil_instruction.specs.Instruction.{instruction_at, numbers}
-use Rattle.cil_body.specs.First.{IsFirstOff}
+use Rattle.dc_causes.specs.First.{IsFirstOff}
 use Rattle.cil_body.specs.Header.{IsHeader}
 use Rattle.byteorder.specs.Endian.{little_number}
 

@@ -9,7 +9,7 @@ use Rattle.cil_instruction.specs.declared.fault.BodyCause.TheVariants.{BadSectio
 use Rattle.cil_body.specs.declared.header.Header.{Header}
 use Rattle.cil_body.specs.declared.section.Section.{Section}
 use Rattle.cil_body.specs.declared.section.RawClause.{RawClause}
-use Rattle.cil_body.specs.First.{IsFirstOff}
+use Rattle.dc_causes.specs.First.{IsFirstOff}
 use Rattle.cil_body.specs.Number.{number_at}
 use Rattle.cil_body.specs.Header.{has_flag}
 

@@ -1,8 +1,9 @@
 // A body.
 
 ghost use Rattle.std.specs.Prelude.{◌≡◌, ◌≤◌, ◌^◌, length, map, All, IfOk, IfErr, IfSome, IfNone};
+ghost use Rattle.dc_causes.specs.Answer.{IsRefused};
 ghost use Rattle.cil_body.specs.Section.{IsTaken, IsTakenKind};
-ghost use Rattle.cil_body.specs.Body.{clause_of, kind_of, IsBody, IsClauseFault, IsRefused};
+ghost use Rattle.cil_body.specs.Body.{clause_of, kind_of, IsBody, IsBodyFault, IsClauseFault};
 
 use crate::code::{aimed, code_of, cut, starts};
 use crate::header::header_of;
@@ -47,7 +48,7 @@ pub struct Body {
 pub fn decode(alloc: Global, bytes: &[u8], code_limit: u32) -> Result<Body, Or<BodyFault>>
     requires { length bytes.now ≤ 2 ^ 31 }
     ensures read { IfOk result (IsBody bytes.now code_limit) }
-    ensures fault { IfErr result (IsRefused bytes.now code_limit) }
+    ensures fault { IfErr result (IsRefused (IsBodyFault bytes.now code_limit)) }
 {
     let header = header_of(bytes)?;
     let code = code_of(bytes, header, code_limit)?;

@@ -134,11 +134,6 @@ abbrev pub stop_of : Stop → ℕ → LoneFault
 stop_of (NotYetHere byte) place = NotYet byte place
 stop_of TruncatedHere place = Truncated place
 
--- the fault of a call, unless it wanted memory
-abbrev pub IsRefused : List ℕ → Or LoneFault → Type 0
-IsRefused file NoMemory = Unit {0}
-IsRefused file (Fault fault) = IsLoneFault file fault
-
 -- an instruction on a stack of `depth` slots does its part, where `code` stands behind it and `goes_on` says that
 -- `code` does too
 abbrev pub DoesItsPart : Row → ℕ → List Placed → Type 0 → Type 0

@@ -1,8 +1,9 @@
 // A lone body.
 
 ghost use Rattle.std.specs.Prelude.{◌≡◌, ◌<◌, ◌≤◌, ◌^◌, length, IfOk, IfErr, OnOk};
+ghost use Rattle.dc_causes.specs.Answer.{IsRefused};
 ghost use Rattle.cil_lone.specs.Cut.{IsConsecutive, lone_at};
-ghost use Rattle.cil_lone.specs.Lone.{IsWhole, IsCut, IsBalanced, IsLone, IsLoneFault, IsRefused, IsBreak, stop_of};
+ghost use Rattle.cil_lone.specs.Lone.{IsWhole, IsCut, IsBalanced, IsLone, IsLoneFault, IsBreak, stop_of};
 ghost use Rattle.dc_base.specs.declared.failure.Or.TheVariants.{Fault};
 
 use crate::row::{Row, size_of};
@@ -79,7 +80,7 @@ fn first_lone(bytes: &[u8]) -> Result<Simple, Stop>
 pub fn lone(alloc: Global, bytes: &[u8]) -> Result<Vec<(u32, Simple)>, Or<LoneFault>>
     requires { length bytes.now ≤ 2 ^ 31 }
     ensures read { IfOk result (λ code. IsLone bytes.now code.items) }
-    ensures fault { IfErr result (IsRefused bytes.now) }
+    ensures fault { IfErr result (IsRefused (IsLoneFault bytes.now)) }
 {
     let size = header(bytes)?;
     let code = cut(alloc, bytes, size)?;
@@ -113,7 +114,7 @@ fn cut(alloc: Global, bytes: &[u8], size: usize) -> Result<Vec<(u32, Simple)>, O
     requires short { length bytes.now ≤ 2 ^ 31 }
     requires whole { IsWhole bytes.now size }
     ensures read { IfOk result (λ code. IsCut bytes.now size code.items) }
-    ensures fault { IfErr result (IsRefused bytes.now) }
+    ensures fault { IfErr result (IsRefused (IsLoneFault bytes.now)) }
 {
     let body = &bytes[..size + 1];
     let mut code = Vec::new(alloc);

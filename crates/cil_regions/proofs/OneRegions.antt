@@ -7,7 +7,7 @@ use Rattle.cil_regions.specs.declared.region.RegionTree.{RegionTree}
 use Rattle.cil_regions.specs.declared.region.RegionFault.{RegionFault}
 use Rattle.cil_regions.specs.declared.region.RegionFault.TheVariants.{Nest, RethrowPlace, TooDeep}
 use Rattle.cil_regions.specs.Region.{spans_of, CrossesAt, IsLooseAt, IsLeast, IsNested, IsBadNest, IsRethrowFine, IsBadRethrow, IsDeepAt, IsRegionTree, IsRegionFault}
-use Rattle.cil_body.proofs.First.{not_off, one_first}
+use Rattle.dc_causes.proofs.First.{not_off, one_first}
 
 one_least : (P : ℕ → Type 0) (p q : ℕ) → IsLeast P p → IsLeast P q → p ≡ q
 one_least P p q a b =

@@ -11,7 +11,7 @@ use Rattle.cil_regions.specs.declared.region.RegionKind.{RegionKind}
 use Rattle.cil_regions.specs.declared.region.RegionKind.TheVariants.{Code}
 use Rattle.cil_regions.specs.declared.region.Span.{Span}
 use Rattle.cil_regions.specs.Region.{spans_of, is_try, lies_in, is_later, is_inside, IsParent, ComesBefore, IsNode, AreNodes, IsRegionTree}
-use Rattle.cil_regions.proofs.SameLists.{IsStrict, same_lists, one_index}
+use Rattle.dc_causes.proofs.SameLists.{IsStrict, same_lists, one_index}
 
 any_node : Region
 any_node = record { kind = Code; from = 0; to = 0; parent = 0 }

@@ -6,7 +6,7 @@ use Rattle.cil_regions.specs.declared.region.RegionKind.TheVariants.{Code, Try}
 use Rattle.cil_regions.specs.declared.region.Region.{Region}
 use Rattle.cil_regions.specs.declared.region.Span.{Span}
 use Rattle.cil_regions.specs.Region.{first_of, handler_of, spans_of, is_try, ComesBefore, AreLaminar, IsLeast, IsCatchKind, depth_limit}
-use Rattle.cil_body.specs.First.{IsFirstOff}
+use Rattle.dc_causes.specs.First.{IsFirstOff}
 use Rattle.std.specs.List.Sorted.{IsNonDecreasingBy}
 use Rattle.cil_instruction.specs.declared.opcode.Op.TheVariants.{Rethrow}
 use Rattle.cil_instruction.specs.declared.instruction.Instr.{Instr}

@@ -16,7 +16,7 @@ use Rattle.cil_regions.specs.declared.region.RegionTree.{RegionTree}
 use Rattle.cil_regions.specs.declared.region.RegionFault.{RegionFault}
 use Rattle.cil_regions.specs.declared.region.RegionFault.TheVariants.{Nest, RethrowPlace, TooDeep}
 use Rattle.cil_regions.specs.declared.region.Span.{Span}
-use Rattle.cil_body.specs.First.{IsFirstOff}
+use Rattle.dc_causes.specs.First.{IsFirstOff}
 
 abbrev pub is_catch : ClauseKind → Bool
 is_catch Catch = true

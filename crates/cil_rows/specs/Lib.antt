@@ -1,3 +1,4 @@
+-- What a reader must believe: what the instructions do.
 pub mod Operand
 pub mod Instruction
 pub mod Flow

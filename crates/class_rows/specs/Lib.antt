@@ -1,3 +1,4 @@
+-- What a reader must believe: what makes a class table, and what is asked of one.
 pub mod Types
 pub mod Names
 pub mod Members

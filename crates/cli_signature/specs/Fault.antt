@@ -39,8 +39,3 @@ IsSigFault W blob (Truncated place) = (place ≡ length blob) × IsViable W blob
 IsSigFault W blob (BadElement place byte) = (b : Breaks W blob place byte) × (IsLeftOut W b.front byte → ⊥)
 IsSigFault W blob (OutOfProfile place byte) = (b : Breaks W blob place byte) × IsLeftOut W b.front byte
 IsSigFault W blob (Trailing place) = (place < length blob) × W (take place blob)
-
--- the fault of a call, unless it wanted memory
-abbrev pub IsRefused : (List ℕ → Type 0) → List ℕ → Or SigFault → Type 0
-IsRefused W blob NoMemory = Unit {0}
-IsRefused W blob (Fault fault) = IsSigFault W blob fault

@@ -1,9 +1,10 @@
 // Whole signatures.
 
 ghost use Rattle.std.specs.Prelude.{◌≡◌, ◌≢◌, ◌≤◌, ◌^◌, ◌↔◌, IsTrue, length, IfOk, IfErr};
+ghost use Rattle.dc_causes.specs.Answer.{IsRefused};
 ghost use Rattle.cli_signature.specs.declared.kind.Kind.TheVariants.{Field, Locals, Method, Property};
 ghost use Rattle.cli_signature.specs.Grammar.{IsBlob, IsFieldSig, IsLocalSig, IsMethodSig};
-ghost use Rattle.cli_signature.specs.Fault.{IsSigFault, IsLeadLeftOut, IsRefused};
+ghost use Rattle.cli_signature.specs.Fault.{IsSigFault, IsLeadLeftOut};
 ghost use Rattle.cli_signature.specs.Reading.{ReadsLead, Done, results_of};
 
 use crate::kind::{Kind, Slot};
@@ -31,7 +32,7 @@ pub fn field_sig(blob: &[u8]) -> Result<RawTy, SigFault>
 pub fn local_sig(alloc: Global, blob: &[u8]) -> Result<Vec<RawTy>, Or<SigFault>>
     requires { length blob.now ≤ 2 ^ 31 }
     ensures read { IfOk result (λ types. IsLocalSig blob.now types.items) }
-    ensures fault { IfErr result (IsRefused (IsBlob Locals) blob.now) }
+    ensures fault { IfErr result (IsRefused (IsSigFault (IsBlob Locals) blob.now)) }
 {
     let (_, types) = counted(alloc, blob, Kind::Locals)?;
     Ok(types)
@@ -41,7 +42,7 @@ pub fn local_sig(alloc: Global, blob: &[u8]) -> Result<Vec<RawTy>, Or<SigFault>>
 pub fn method_sig(alloc: Global, blob: &[u8]) -> Result<MethodSig, Or<SigFault>>
     requires { length blob.now ≤ 2 ^ 31 }
     ensures read { IfOk result (IsMethodSig Method blob.now) }
-    ensures fault { IfErr result (IsRefused (IsBlob Method) blob.now) }
+    ensures fault { IfErr result (IsRefused (IsSigFault (IsBlob Method) blob.now)) }
 {
     with_result(alloc, blob, Kind::Method)
 }
@@ -50,7 +51,7 @@ pub fn method_sig(alloc: Global, blob: &[u8]) -> Result<MethodSig, Or<SigFault>>
 pub fn property_sig(alloc: Global, blob: &[u8]) -> Result<MethodSig, Or<SigFault>>
     requires { length blob.now ≤ 2 ^ 31 }
     ensures read { IfOk result (IsMethodSig Property blob.now) }
-    ensures fault { IfErr result (IsRefused (IsBlob Property) blob.now) }
+    ensures fault { IfErr result (IsRefused (IsSigFault (IsBlob Property) blob.now)) }
 {
     with_result(alloc, blob, Kind::Property)
 }
@@ -60,7 +61,7 @@ fn with_result(alloc: Global, blob: &[u8], kind: Kind) -> Result<MethodSig, Or<S
     requires short { length blob.now ≤ 2 ^ 31 }
     requires kind { results_of kind ≡ 1 }
     ensures read { IfOk result (IsMethodSig kind blob.now) }
-    ensures fault { IfErr result (IsRefused (IsBlob kind) blob.now) }
+    ensures fault { IfErr result (IsRefused (IsSigFault (IsBlob kind) blob.now)) }
 {
     let (lead, mut types) = counted(alloc, blob, kind)?;
     let result = types.remove(0);
@@ -77,7 +78,7 @@ fn counted(alloc: Global, blob: &[u8], kind: Kind) -> Result<(u8, Vec<RawTy>), O
     requires kind { kind ≢ Field }
     ensures read { IfOk result (λ found. Done kind found.0 blob.now found.1.items) }
     ensures many { IfOk result (λ found. results_of kind ≤ length found.1.items) }
-    ensures fault { IfErr result (IsRefused (IsBlob kind) blob.now) }
+    ensures fault { IfErr result (IsRefused (IsSigFault (IsBlob kind) blob.now)) }
 {
     let lead = lead(blob, kind)?;
     let (count, start) = number(blob, 1, false)?;

@@ -26,7 +26,8 @@ use Rattle.std.proofs.lemmas.List.{length-set}
 use Rattle.std.proofs.lemmas.List.Elements.{All-head, All-tail}
 use Rattle.std.proofs.lemmas.Bool.Decides.{eqb_tells}
 use Rattle.cs_meaning.proofs.Vars.{slice_get-set_same, slice_get-set_other, Contains-cons_cases}
-use Rattle.cs_meaning.proofs.Runs.{Gives, Gives-literal, Gives-var, Gives-add, Gives-sub, Gives-mul, RunsTo, RunsTo-decl, RunsTo-return, CsReturns-from, block_done}
+use Rattle.cs_meaning.specs.Laws.{Gives, RunsTo}
+use Rattle.cs_meaning.proofs.Runs.{Gives-literal, Gives-var, Gives-add, Gives-sub, Gives-mul, RunsTo-decl, RunsTo-return, CsReturns-from, block_done}
 use Rattle.cs_meaning.proofs.Fuel.{block_meaning_keeps, with_more}
 
 -- each of these variables has an int

@@ -17,13 +17,10 @@ use Rattle.cs_meaning.specs.declared.tree.Expr.TheVariants as expr
 use Rattle.cs_meaning.specs.declared.tree.Stmt.{Stmt}
 use Rattle.cs_meaning.specs.declared.tree.Stmt.TheVariants as stmt
 use Rattle.cs_meaning.specs.Ran.{gives, done, Meaning, end_of, valued, value_in, assigned, Part, after, runs, entry, again}
+use Rattle.cs_meaning.specs.Laws.{Gives, RunsTo}
 use Rattle.cs_meaning.specs.Meaning.{Node, int_result, expr_meaning, stmt_meaning, block_meaning, initial, CsReturns}
 use Rattle.cs_meaning.proofs.Equations.{expr_literal, expr_var, expr_binary, stmt_decl, stmt_return}
 use Rattle.cs_meaning.proofs.Fuel.{block_meaning_keeps, one_end}
-
--- in this state the expression has this int as its value, and changes nothing
-pub record Gives (e : Expr) (σ : State) (x : ℤ) : Type 0 where
-  pub value : (expr_meaning e).value σ ≡ gives (Int x) σ
 
 pub Gives-literal : (i : ℤ) (σ : State) → Gives (expr.Literal (literal.Int i)) σ i
 Gives-literal i σ = record { value = ap (λ (d : Node). d.value σ) (expr_literal (literal.Int i)) }
@@ -44,12 +41,6 @@ Gives-sub l r σ x y left right = record { value = value-binary Sub l r σ x y l
 
 pub Gives-mul : (l r : Expr) (σ : State) (x y : ℤ) → Gives l σ x → Gives r σ y → Gives (expr.Binary Mul false l r) σ (int_wrap w32 (x *ℤ y))
 Gives-mul l r σ x y left right = record { value = value-binary Mul l r σ x y left right }
-
--- the statements return this int, with so much fuel
-pub record RunsTo (stmts : List Stmt) (σ : State) (fuel : ℕ) (v : ℤ) : Type 0 where
-  pub state : State
-  pub left : ℕ
-  pub ran : runs (map stmt_meaning stmts) fuel σ ≡ done (Returns (Some (Int v))) state left
 
 -- a declaration sets its variable
 pub RunsTo-decl : (v : ℕ) (e : Expr) (rest : List Stmt) (σ : State) (fuel : ℕ) (x y : ℤ) → Gives e σ x → v < length σ.vars →

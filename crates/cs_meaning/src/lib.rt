@@ -10,13 +10,16 @@
 
 mod body;
 mod copying;
+mod laws;
 mod run;
+mod same;
 mod state;
 #[cfg(test)]
 mod tests;
 mod tree;
 
 pub use body::{Body, Home, Role, Var};
+pub use laws::{expressions_give, one_result, statements_run};
 pub use run::lone_exec;
 pub use state::{End, State, Value};
 pub use tree::{BinaryOp, Case, Catch, Expr, Literal, Section, Stmt, UnaryOp};

@@ -110,3 +110,12 @@ fn keeps_the_low_bits_at_the_edges(rt: HostRuntime) -> Result<(), Fail> {
     assert_eq!(rt; called(rt.alloc(), BinaryOp::Mul, 65536, 65537)?, 65536);
     Ok(())
 }
+
+#[test]
+fn a_copy_is_the_same(rt: HostRuntime) -> Result<(), Fail> {
+    let alloc = rt.alloc();
+    let sum = flat(alloc, BinaryOp::Add)?;
+    assert!(rt; sum.same(&sum.copied(alloc)?));
+    assert!(rt; !sum.same(&flat(alloc, BinaryOp::Sub)?));
+    Ok(())
+}

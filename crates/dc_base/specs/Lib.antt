@@ -1,6 +1,3 @@
+-- What a reader must believe: how numbers are spelled, and which words are names.
 pub mod Identifiers
-pub mod MemShelf
-pub mod MemSink
-pub mod Outside
-pub mod Script
 pub mod Spelling

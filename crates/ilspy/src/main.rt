@@ -1,7 +1,7 @@
 //! The program `ilspy`: `run` over the system's files and standard output.
 #![tactic(auto)]
 
-use dc_base::OpenGate;
+use dc_outside::OpenGate;
 use ilspy_cli::{DirShelf, OutSink, Status, process_words, run};
 use std::io;
 use std::process::ExitCode;

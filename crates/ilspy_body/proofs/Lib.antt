@@ -1,7 +1,10 @@
+-- Which calls cite each file in the proof of their clauses. A file without a call serves the files that are cited.
 pub mod FlatShape
 pub mod FlatBody
+-- meaning::code_can_be_flattened
 pub mod CilRuns
 pub mod Simulation
+-- flat_form::flat
 pub mod Returns
 pub mod LayoutLines
 pub mod Chains
@@ -10,8 +13,12 @@ pub mod FormReads
 pub mod TextReads
 pub mod Runs
 pub mod FormUnique
+-- reading::one_tree
 pub mod TreeUnique
+-- reading::one_tree
 pub mod TokensUnique
+-- flat_form::flattened
 pub mod FlatCode
 pub mod FlatLength
+-- meaning::text_means_the_same
 pub mod LoneMeaning

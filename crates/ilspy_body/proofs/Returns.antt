@@ -12,7 +12,7 @@ use Rattle.cs_meaning.specs.declared.body.Var.{Var as Variable}
 use Rattle.cs_meaning.specs.declared.state.State.{State}
 use Rattle.cs_meaning.specs.declared.state.Value.TheVariants.{Int}
 use Rattle.cs_meaning.specs.Meaning.{args_left, first_values, CsReturns}
-use Rattle.cs_meaning.proofs.Runs.{CsReturns-from, CsReturns-functional}
+use Rattle.cs_meaning.proofs.Consequences.{bodies_return, returns_one_int}
 use Rattle.ilspy_body.specs.Flat.{flat_from, declarations, lone_vars, lone_body}
 use Rattle.ilspy_body.specs.Theorem.{ReturnsTheSame, RunsAsTheCode}
 use Rattle.ilspy_body.proofs.FlatShape.{AreFlat, OperandsFit, flat_is_flat}
@@ -69,7 +69,7 @@ module _ (role : Role) (code : List Placed) (end : ℕ) (walks : Walks 0 code) (
       let n = declarations stmts in
       let agree =
       code_agrees code end args fits_end refl code 0 operands walks 1 4 [] [] (first_state role n args) (SameFrom-start 1 code) cons refl (first_fits role n a b c d) in
-      (agree.number, (agree.cil.count, agree.cil.done), CsReturns-from (lone_body role stmts) args agree.fuel agree.number agree.cs)
+      (agree.number, (agree.cil.count, agree.cil.done), bodies_return (lone_body role stmts) args agree.fuel agree.number agree.cs)
 
   -- so each returns what the other returns
   pub returns_the_same : ReturnsTheSame code (lone_body role (flat_from 4 [] code))
@@ -79,7 +79,7 @@ module _ (role : Role) (code : List Placed) (end : ℕ) (walks : Walks 0 code) (
         let body = lone_body role (flat_from 4 [] code) in
         let r = both_return args are.0 in (
           λ cil. subst (CsReturns body args) (CilReturns-functional code args r.0 v r.1 cil) r.2,
-          λ cs. subst (CilReturns code args) (CsReturns-functional body args r.0 v r.2 cs) r.1,
+          λ cs. subst (CilReturns code args) (returns_one_int body args r.0 v r.2 cs) r.1,
         );
   }
 

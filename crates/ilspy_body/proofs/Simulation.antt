@@ -22,7 +22,8 @@ use Rattle.cs_meaning.specs.declared.tree.Expr.TheVariants as expr
 use Rattle.cs_meaning.specs.declared.tree.Stmt.{Stmt}
 use Rattle.cs_meaning.specs.declared.tree.Stmt.TheVariants as stmt
 use Rattle.cs_meaning.specs.Ran.{assigned}
-use Rattle.cs_meaning.proofs.Runs.{Gives, Gives-literal, Gives-var, Gives-add, Gives-sub, Gives-mul, RunsTo, RunsTo-decl, RunsTo-return}
+use Rattle.cs_meaning.specs.Laws.{Gives, RunsTo}
+use Rattle.cs_meaning.proofs.Consequences.{literals_give, variables_give, sums_give, differences_give, products_give, declarations_run, returns_end}
 use Rattle.ilspy_body.specs.Flat.{sign_of, loaded_form, pushed, declared_by, flat_from, declarations}
 use Rattle.ilspy_body.proofs.FlatShape.{OperandsFit, AreBelow, IsFineSource, IsFineRow, fine_row, more_below}
 use Rattle.ilspy_body.proofs.FlatBody.{declared_in-decl}
@@ -95,7 +96,7 @@ Agree-push whole s t next form stmts σ v h gives room agree = record {
   number = agree.number;
   cil = Ends-next whole s t agree.number h agree.cil;
   fuel = suc agree.fuel;
-  cs = RunsTo-decl next form stmts σ agree.fuel v agree.number gives room agree.cs;
+  cs = declarations_run next form stmts σ agree.fuel v agree.number gives room agree.cs;
 }
 
 -- both load the same number
@@ -104,16 +105,16 @@ load_agrees : (source : Source) (arg : ℤ) (args : List ℤ) (next left : ℕ) 
     (v : ℤ) × (loaded_of source arg args ≡ Some v) × Gives (loaded_form source arg) σ v
 load_agrees (Argument k) arg args next left slots stack σ four fine fits =
     let found = slice_get-get_or args k (pos 0) (omega arith) in
-    (get_or args k (pos 0), found, Gives-var k σ (get_or args k (pos 0)) (fits.args_held k (get_or args k (pos 0)) fine found))
-load_agrees (Number n) arg args next left slots stack σ four fine fits = (n, refl, Gives-literal n σ)
-load_agrees Operand arg args next left slots stack σ four fine fits = (arg, int_of_fits arg fine, Gives-literal arg σ)
+    (get_or args k (pos 0), found, variables_give k σ (get_or args k (pos 0)) (fits.args_held k (get_or args k (pos 0)) fine found))
+load_agrees (Number n) arg args next left slots stack σ four fine fits = (n, refl, literals_give n σ)
+load_agrees Operand arg args next left slots stack σ four fine fits = (arg, int_of_fits arg fine, literals_give arg σ)
 
 -- both operators give the same number
 binary_agrees : (two : Two) (x y : ℕ) (σ : State) (v w : ℤ) → Gives (expr.Var x) σ v → Gives (expr.Var y) σ w →
     Gives (expr.Binary (sign_of two) false (expr.Var x) (expr.Var y)) σ (result_of two v w)
-binary_agrees Add x y σ v w l r = Gives-add (expr.Var x) (expr.Var y) σ v w l r
-binary_agrees Sub x y σ v w l r = Gives-sub (expr.Var x) (expr.Var y) σ v w l r
-binary_agrees Mul x y σ v w l r = Gives-mul (expr.Var x) (expr.Var y) σ v w l r
+binary_agrees Add x y σ v w l r = sums_give (expr.Var x) (expr.Var y) σ v w l r
+binary_agrees Sub x y σ v w l r = differences_give (expr.Var x) (expr.Var y) σ v w l r
+binary_agrees Mul x y σ v w l r = products_give (expr.Var x) (expr.Var y) σ v w l r
 
 module _ (whole : List Placed) (end : ℕ) (args : List ℤ) (fits_end : end < 2 ^ 32) (four_args : length args ≡ 4) where
   -- the rest of the code agrees with its statements, wherever the variables fit the machine
@@ -164,7 +165,7 @@ module _ (whole : List Placed) (end : ℕ) (args : List ℤ) (fits_end : end < 2
   row_agrees (Binary two) i depth code fine rest walks at next (y ∷ x ∷ slots) (w ∷ []) σ h same cons len fits = absurd fits.stack_held.1
   row_agrees (Binary two) i depth code fine rest walks at next (y ∷ x ∷ slots) (w ∷ v ∷ stack) σ h same cons len fits =
       let held = fits.stack_held in
-      let gives = binary_agrees two x y σ v w (Gives-var x σ v held.1.0) (Gives-var y σ w held.0) in
+      let gives = binary_agrees two x y σ v w (variables_give x σ v held.1.0) (variables_give y σ w held.0) in
       push_agrees i (depth - 1) code at next slots stack (w ∷ v ∷ stack) σ
       (expr.Binary (sign_of two) false (expr.Var x) (expr.Var y)) (result_of two v w) (rest (depth - 1) walks.1) h gives same cons (omega arith)
       (record { below = fits.below.1.1; four = fits.four; stack_held = held.1.1; args_held = fits.args_held; room = fits.room })
@@ -173,7 +174,7 @@ module _ (whole : List Placed) (end : ℕ) (args : List ℤ) (fits_end : end < 2
   row_agrees Return i depth code fine rest walks at next (x ∷ []) [] σ h same cons len fits = absurd fits.stack_held
   row_agrees Return i depth code fine rest walks at next (x ∷ []) (v ∷ w ∷ stack) σ h same cons len fits = absurd fits.stack_held.1
   row_agrees Return i depth code fine rest walks at next (x ∷ []) (v ∷ []) σ h same cons len fits =
-      record { number = v; cil = Ends-done whole _ v h; fuel = 1; cs = RunsTo-return (expr.Var x) [] σ 0 v (Gives-var x σ v fits.stack_held.0) }
+      record { number = v; cil = Ends-done whole _ v h; fuel = 1; cs = returns_end (expr.Var x) [] σ 0 v (variables_give x σ v fits.stack_held.0) }
   row_agrees Beyond i depth code fine rest walks at next slots stack σ h same cons len fits = absurd walks
 
   -- code agrees with its statements

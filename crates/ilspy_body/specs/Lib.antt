@@ -1,3 +1,4 @@
+-- What a reader must believe: the theorem, and what a text is read as.
 pub mod Tokens
 pub mod Tree
 pub mod Flat

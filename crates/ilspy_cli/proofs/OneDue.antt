@@ -3,7 +3,7 @@ use Rattle.std.proofs.Common.{◌≡◌, ℕ, List, [], ◌∷◌, Option, Some,
 use Rattle.cil_lone.specs.Laws.{HasOneCode, HasNoFault, HasOneFault}
 use Rattle.pe_image.specs.Laws as image
 use Rattle.cli_metadata.specs.Laws as metadata
-use Rattle.dc_base.specs.Outside.{HasRisen}
+use Rattle.dc_outside.specs.Outside.{HasRisen}
 use Rattle.ilspy_body.specs.Flat.{flat_of}
 use Rattle.ilspy_body.specs.Layout.{text_of}
 use Rattle.ilspy_cli.specs.declared.status.Status.{Status}

@@ -2,7 +2,7 @@
 use Rattle.std.proofs.Common.{◌≡◌, ℕ, ◌≤◌, ◌+◌, List, ◌++◌, length, take, drop, Option, Some, None, Ok, option_map, ap, ◌∙◌, sym, arith, append_assoc}
 use Rattle.std.proofs.lemmas.List.{take-append-drop, take-append-le, length-take, length-drop}
 use Rattle.std.proofs.Math.Seq.{take-add}
-use Rattle.dc_base.specs.Outside.{Puts, CountsPut, HasRisen}
+use Rattle.dc_outside.specs.Outside.{Puts, CountsPut, HasRisen}
 use Rattle.ilspy_cli.specs.Outcome.{sunk, IsWritten, IsCutShort}
 
 -- the first `done` bytes of the text are written, and the count of faults stands where it stood

@@ -1,10 +1,10 @@
 -- How far the files of a command are read.
 use Rattle.std.proofs.Common.{◌≡◌, ◌<◌, ◌≤◌, ◌+◌, ℕ, zero, suc, List, [], ◌∷◌, ◌++◌, length, map, take, get_or, Option, Some, Err, refl, sym, ap, ◌∙◌, subst, arith}
-use Rattle.dc_base.specs.Outside.{CountsTake, HasRisen, IsFile, IsFileLength, Takes}
+use Rattle.dc_outside.specs.Outside.{CountsTake, HasRisen, IsFile, IsFileLength, Takes}
 use Rattle.dc_base.specs.declared.failure.Or.{Or}
 use Rattle.dc_base.specs.declared.failure.Or.TheVariants.{Fault}
-use Rattle.dc_base.specs.declared.shelf.TakeFault.{TakeFault}
-use Rattle.dc_base.specs.declared.shelf.TakeFault.TheVariants.{Longer, Failed}
+use Rattle.dc_outside.specs.declared.shelf.TakeFault.{TakeFault}
+use Rattle.dc_outside.specs.declared.shelf.TakeFault.TheVariants.{Longer, Failed}
 use Rattle.ilspy_cli.specs.Files.{Files, Wanted, AreRead, IsNext, Shelved, shelved, HasNotFailed}
 use Rattle.ilspy_cli.proofs.Lists.{map_append, map_more}
 

@@ -1,6 +1,6 @@
 -- The files of a command, and how a shelf gives them.
 use Rattle.std.specs.Prelude.{◌≡◌, ◌<◌, ◌≤◌, ⊤, ℕ, List, [], ◌∷◌, ◌++◌, length, Option, None, Some}
-use Rattle.dc_base.specs.Outside.{HasRisen, IsFile, IsFileLength}
+use Rattle.dc_outside.specs.Outside.{HasRisen, IsFile, IsFileLength}
 use Rattle.ilspy_cli.specs.declared.words.Request.{Request}
 use Rattle.ilspy_cli.specs.declared.words.Request.TheVariants.{Body, Show}
 

@@ -3,7 +3,7 @@ use Rattle.std.specs.Prelude.{◌≡◌, ℕ, List, [], ◌∷◌, ◌++◌, Opt
 use Rattle.cil_lone.specs.declared.standalone.LoneFault.{LoneFault}
 use Rattle.cil_lone.specs.Cut.{Placed}
 use Rattle.cil_lone.specs.Lone.{IsLone, IsLoneFault}
-use Rattle.dc_base.specs.Outside.{HasRisen, IsFile}
+use Rattle.dc_outside.specs.Outside.{HasRisen, IsFile}
 use Rattle.ilspy_body.specs.Flat.{flat_of}
 use Rattle.ilspy_body.specs.Layout.{text_of}
 use Rattle.ilspy_body.specs.Theorem.{LoneBodyMeansTheSame}

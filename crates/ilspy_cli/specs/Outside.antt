@@ -3,8 +3,8 @@ use Rattle.std.specs.Prelude.{◌≡◌, ◌<◌, ◌≤◌, ℕ, length, Result
 use Rattle.std.specs.declared.alloc.Global.{Global}
 use Rattle.dc_base.specs.declared.failure.Or.{Or}
 use Rattle.dc_base.specs.declared.failure.Or.TheVariants.{NoMemory, Fault}
-use Rattle.dc_base.specs.declared.shelf.TakeFault.{TakeFault}
-use Rattle.dc_base.specs.declared.shelf.TakeFault.TheVariants.{Longer, Failed}
+use Rattle.dc_outside.specs.declared.shelf.TakeFault.{TakeFault}
+use Rattle.dc_outside.specs.declared.shelf.TakeFault.TheVariants.{Longer, Failed}
 
 -- the bytes, where there aren't more than the limit, and else how many there are
 abbrev pub IsWithin : Vec ℕ Global → ℕ → Result (Vec ℕ Global) (Or TakeFault) → Type 0

@@ -10,7 +10,8 @@ use crate::taking::{Untaken, take_all};
 use crate::words::{Request, asked};
 use crate::{Status, lines};
 use cil_lone::lone;
-use dc_base::{NoMemory, Or, Shelf, Text};
+use dc_base::{NoMemory, Or, Text};
+use dc_outside::Shelf;
 use ilspy_body::{code_can_be_flattened, flat, text};
 use std::alloc::Global;
 

@@ -3,7 +3,8 @@
 ghost use Rattle.std.specs.Prelude.{◌≡◌, ◌≤◌, None, option_map};
 ghost use Rattle.ilspy_cli.specs.Outside.{IsWithin};
 
-use dc_base::{Or, Shelf, TakeFault, Text};
+use dc_base::{Or, Text};
+use dc_outside::{Shelf, TakeFault};
 use std::alloc::Global;
 use std::fs;
 use std::io::{self, Read};

@@ -2,7 +2,7 @@
 
 ghost use Rattle.std.specs.Prelude.{◌≡◌, ◌≤◌, None, length};
 
-use dc_base::{Failed, Sink};
+use dc_outside::{Failed, Sink};
 use std::io::{self, Write};
 
 /// A writer, as standard output. It tells no content.

@@ -3,7 +3,7 @@
 ghost use Rattle.std.specs.Prelude.{◌≡◌, ◌<◌, ◌≤◌, OnOk, OnErr, length, take, drop};
 ghost use Rattle.ilspy_cli.specs.Outcome.{IsWritten, IsCutShort, sunk};
 
-use dc_base::{Failed, Sink};
+use dc_outside::{Failed, Sink};
 
 /// The most bytes that are put at once.
 const PIECE: usize = 4096;
@@ -34,7 +34,7 @@ fn piece(text: &[u8], done: usize) -> &[u8]
 #[cfg(test)]
 mod tests {
     use super::*;
-    use dc_base::MemSink;
+    use dc_outside::MemSink;
     use std::test::Fail;
 
     // The second put fails, so what is written is the first piece.

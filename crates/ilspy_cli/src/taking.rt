@@ -5,7 +5,8 @@ ghost use Rattle.ilspy_cli.specs.Files.{HasNotFailed, shelved, wanted};
 ghost use Rattle.ilspy_cli.specs.Taking.{IsTaken};
 ghost use Rattle.ilspy_cli.specs.Outcome.{HasNotRisen};
 
-use dc_base::{Or, Shelf, TakeFault, Text};
+use dc_base::{Or, Text};
+use dc_outside::{Shelf, TakeFault};
 use std::alloc::Global;
 
 /// The first file that wasn't given, and why.

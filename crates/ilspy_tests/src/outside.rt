@@ -1,7 +1,7 @@
 // The command `body` over outsides that fail or take little at once.
 
 use crate::body::{SUM, SUM_TEXT, shelf_of, words_of};
-use dc_base::{FreeSink, MemSink, OpenGate};
+use dc_outside::{FreeSink, MemSink, OpenGate};
 use ilspy_cli::{Status, run};
 use std::test::Fail;
 

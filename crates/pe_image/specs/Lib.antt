@@ -1,11 +1,13 @@
+-- What a reader must believe: an image, and what is wrong with a file that is none.
 pub mod Number
 pub mod Headers
 pub mod Sections
-pub mod Table
-pub mod Apart
 pub mod Cli
 pub mod Image
-pub mod View
-pub mod IndexView
 pub mod Fault
 pub mod Laws
+-- Inner facts: what is kept in memory.
+pub mod Table
+pub mod Apart
+pub mod View
+pub mod IndexView

@@ -1,8 +1,8 @@
 -- One more file was read, or this is the first that wasn't given.
 use Rattle.std.proofs.Common.{◌≡◌, ◌∙◌, refl, subst, rules}
 use Rattle.dc_base.specs.declared.failure.Or.TheVariants.{Fault}
-use Rattle.dc_base.specs.declared.shelf.TakeFault.TheVariants.{Longer, Failed}
-use Rattle.dc_base.specs.Outside.{IsFileLength}
+use Rattle.dc_outside.specs.declared.shelf.TakeFault.TheVariants.{Longer, Failed}
+use Rattle.dc_outside.specs.Outside.{IsFileLength}
 use Rattle.ilspy_cli.specs.Files.{wanted}
 use Rattle.ilspy_cli.proofs.Taken.{failed_counts, longer_counts, longer_takes, next_one, taken_more}
 use Rattle.ilspy_cli.proofs.taking.take_all.Goals as goal

@@ -1,7 +1,7 @@
 use Rattle.std.proofs.Common.{rules}
 use Rattle.std.specs.Option.{option_copied}
-use Rattle.dc_base.proofs.Files.{file_of-found}
-use Rattle.dc_base.proofs.mem_shelf.read.Goals as goal
+use Rattle.dc_outside.proofs.Files.{file_of-found}
+use Rattle.dc_outside.proofs.mem_shelf.read.Goals as goal
 
 pub returns-in_default : goal.returns-in_default
 returns-in_default c =

@@ -3,11 +3,12 @@
 ghost use Rattle.std.specs.Prelude.{◌≡◌, ◌≤◌, find};
 ghost use Rattle.std.specs.Option.{option_copied};
 ghost use Rattle.std.specs.Str.{bytes_eq};
-ghost use Rattle.dc_base.specs.Outside.{Takes, CountsTake, one_more};
-ghost use Rattle.dc_base.specs.MemShelf.{entries_of, file_of, Reads, TakesFromMemory, after_take};
+ghost use Rattle.dc_outside.specs.Outside.{Takes, CountsTake, one_more};
+ghost use Rattle.dc_outside.specs.MemShelf.{entries_of, file_of, Reads, TakesFromMemory, after_take};
 
 use crate::script::Script;
-use crate::{Or, Shelf, TakeFault, Text};
+use crate::{Shelf, TakeFault};
+use dc_base::{Or, Text};
 use std::alloc::Global;
 use std::marker::Model;
 
@@ -22,7 +23,7 @@ pub struct MemShelf {
 }
 
 impl Model for MemShelf {
-    ghost use Rattle.dc_base.specs.MemShelf.{ShelfState, entries_of};
+    ghost use Rattle.dc_outside.specs.MemShelf.{ShelfState, entries_of};
 
     ghost Value = { ShelfState };
 
@@ -70,7 +71,7 @@ impl MemShelf {
 
 impl Shelf for MemShelf {
     ghost use Rattle.std.specs.Prelude.{Some};
-    ghost use Rattle.dc_base.specs.MemShelf.{file_of};
+    ghost use Rattle.dc_outside.specs.MemShelf.{file_of};
 
     ghost files = { λ s. Some (file_of s.entries) };
 

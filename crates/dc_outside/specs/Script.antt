@@ -1,6 +1,6 @@
 -- Which calls of an outside in memory fail.
 use Rattle.std.specs.Prelude.{ℕ, List, Contains}
-use Rattle.dc_base.specs.Outside.{one_more}
+use Rattle.dc_outside.specs.Outside.{one_more}
 
 -- after this many calls the number of the next one, counted from 1, is among these
 abbrev pub IsNextListed : List ℕ → ℕ → Type 0

@@ -3,9 +3,9 @@ use Rattle.std.specs.Prelude.{◌≡◌, ◌<◌, ◌≤◌, ⊤, ℕ, ◌+◌, 
 use Rattle.std.specs.declared.alloc.Global.{Global}
 use Rattle.dc_base.specs.declared.failure.Or.{Or}
 use Rattle.dc_base.specs.declared.failure.Or.TheVariants.{NoMemory, Fault}
-use Rattle.dc_base.specs.declared.shelf.TakeFault.{TakeFault}
-use Rattle.dc_base.specs.declared.shelf.TakeFault.TheVariants.{Longer, Failed as FailedTake}
-use Rattle.dc_base.specs.declared.sink.Failed.{Failed}
+use Rattle.dc_outside.specs.declared.shelf.TakeFault.{TakeFault}
+use Rattle.dc_outside.specs.declared.shelf.TakeFault.TheVariants.{Longer, Failed as FailedTake}
+use Rattle.dc_outside.specs.declared.sink.Failed.{Failed}
 
 -- one more, in a count that stands still at the end of its type
 abbrev pub one_more : ℕ → ℕ

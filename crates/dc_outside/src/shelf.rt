@@ -1,16 +1,19 @@
 // Where files are read from.
 
 ghost use Rattle.std.specs.Prelude.{◌≡◌, ◌≤◌, ℕ, List, Option};
-ghost use Rattle.dc_base.specs.Outside.{Takes, CountsTake};
+ghost use Rattle.dc_outside.specs.Outside.{Takes, CountsTake};
 
-use crate::{Or, Text};
+use dc_base::{Or, Text};
 use std::alloc::Global;
+use thiserror::Error;
 
 /// Why a file wasn't given. `Longer` has a number of bytes above the limit, which a shelf that tells its
 /// files makes the file's length. `Failed` is a failed read or a file that isn't there.
-#[derive(Clone, Copy, Debug)]
+#[derive(Clone, Copy, Debug, Error)]
 pub enum TakeFault {
+    #[error("the file has {0} bytes, more than were asked for")]
     Longer(u64),
+    #[error("the file can't be read")]
     Failed,
 }
 

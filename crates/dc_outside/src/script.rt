@@ -1,8 +1,8 @@
 // Which calls of an outside in memory fail.
 
 ghost use Rattle.std.specs.Prelude.{◌≡◌, ◌↔◌, IsTrue, Contains};
-ghost use Rattle.dc_base.specs.Script.{IsNextListed};
-ghost use Rattle.dc_base.specs.Outside.{one_more};
+ghost use Rattle.dc_outside.specs.Script.{IsNextListed};
+ghost use Rattle.dc_outside.specs.Outside.{one_more};
 
 /// The numbers of the calls that are to fail, from 1, and how many calls there were.
 #[derive(Debug, Drop)]

@@ -3,7 +3,7 @@ use Rattle.std.proofs.Common.{◌≡◌, ℕ, true, false, cond, List, [], ◌�
 use Rattle.std.specs.Option.{option_map}
 use Rattle.std.specs.Str.{bytes_eq}
 use Rattle.std.specs.declared.alloc.Global.{Global}
-use Rattle.dc_base.specs.MemShelf.{entries_of, file_of}
+use Rattle.dc_outside.specs.MemShelf.{entries_of, file_of}
 
 -- the first file with this name
 abbrev pub named : List (List ℕ × Vec ℕ Global) → List ℕ → Option (List ℕ × Vec ℕ Global)

@@ -2,12 +2,12 @@
 use Rattle.std.specs.Prelude.{◌≡◌, ◌<◌, ◌≤◌, ◌⊎◌, ⊤, ℕ, List, length, map, find, Option, Some, None, option_map, Result, Ok, Err, Vec}
 use Rattle.std.specs.Str.{bytes_eq}
 use Rattle.std.specs.declared.alloc.Global.{Global}
-use Rattle.dc_base.specs.Outside.{one_more}
-use Rattle.dc_base.specs.Script.{IsNextListed}
+use Rattle.dc_outside.specs.Outside.{one_more}
+use Rattle.dc_outside.specs.Script.{IsNextListed}
 use Rattle.dc_base.specs.declared.failure.Or.{Or}
 use Rattle.dc_base.specs.declared.failure.Or.TheVariants.{NoMemory, Fault}
-use Rattle.dc_base.specs.declared.shelf.TakeFault.{TakeFault}
-use Rattle.dc_base.specs.declared.shelf.TakeFault.TheVariants.{Longer, Failed}
+use Rattle.dc_outside.specs.declared.shelf.TakeFault.{TakeFault}
+use Rattle.dc_outside.specs.declared.shelf.TakeFault.TheVariants.{Longer, Failed}
 
 -- the names and bytes of the files, the numbers of the calls that are to fail, how many calls there
 -- were and how many failed, and the name that the last failed call was given

@@ -1,11 +1,12 @@
 // A sink in memory.
 
 ghost use Rattle.std.specs.Prelude.{◌≡◌, ◌<◌, ◌≤◌, [], max, length, OnErr, OnOk};
-ghost use Rattle.dc_base.specs.Outside.{Puts, CountsPut};
-ghost use Rattle.dc_base.specs.MemSink.{PutsInMemory, after_put};
+ghost use Rattle.dc_outside.specs.Outside.{Puts, CountsPut};
+ghost use Rattle.dc_outside.specs.MemSink.{PutsInMemory, after_put};
 
 use crate::script::Script;
-use crate::{Failed, NoMemory, Sink};
+use crate::{Failed, Sink};
+use dc_base::NoMemory;
 use std::alloc::Global;
 use std::marker::Model;
 
@@ -23,7 +24,7 @@ pub struct MemSink {
 impl Model for MemSink {
     ghost use Rattle.std.specs.Prelude.{◌≤◌, length};
     ghost use Rattle.std.specs.Vec.{vec_capacity};
-    ghost use Rattle.dc_base.specs.MemSink.{SinkState};
+    ghost use Rattle.dc_outside.specs.MemSink.{SinkState};
 
     ghost Value = { SinkState };
 

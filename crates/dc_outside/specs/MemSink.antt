@@ -1,8 +1,8 @@
 -- A sink in memory.
 use Rattle.std.specs.Prelude.{◌≡◌, ◌<◌, ◌≤◌, ◌⊎◌, ℕ, ◌-◌, min, List, ◌++◌, length, take, Result, Ok, Err}
-use Rattle.dc_base.specs.Outside.{one_more}
-use Rattle.dc_base.specs.Script.{IsNextListed}
-use Rattle.dc_base.specs.declared.sink.Failed.{Failed}
+use Rattle.dc_outside.specs.Outside.{one_more}
+use Rattle.dc_outside.specs.Script.{IsNextListed}
+use Rattle.dc_outside.specs.declared.sink.Failed.{Failed}
 
 -- the bytes written, the most that a call takes, the numbers of the calls that are to fail, the room
 -- in all, how many calls there were and how many failed

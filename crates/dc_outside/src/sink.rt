@@ -1,7 +1,7 @@
 // Where bytes are written to.
 
 ghost use Rattle.std.specs.Prelude.{◌≡◌, ◌<◌, ◌≤◌, ℕ, List, Option, length};
-ghost use Rattle.dc_base.specs.Outside.{Puts, CountsPut};
+ghost use Rattle.dc_outside.specs.Outside.{Puts, CountsPut};
 
 use thiserror::Error;
 
