@@ -2,8 +2,8 @@
 use Rattle.std.proofs.Common.{◌≡◌, ℕ, zero, suc, cond, List, [], ◌∷◌, Option, Some, None, map, refl, ap, ◌∙◌}
 use Rattle.cs_meaning.specs.declared.state.State.{State}
 use Rattle.cs_meaning.specs.declared.state.End.TheVariants.{Falls, Breaks, Continues, Goes, Returns, Throws, Asks, Wrong}
-use Rattle.cs_meaning.specs.declared.tree.Stmt.{Stmt, fold_out-Stmt}
-use Rattle.cs_meaning.specs.declared.tree.Expr.TheOpen.{Stmt-F}
+use Rattle.cs_body.specs.declared.tree.Stmt.{Stmt, fold_out-Stmt}
+use Rattle.cs_body.specs.declared.tree.Expr.TheOpen.{Stmt-F}
 use Rattle.cs_meaning.specs.Ran.{Ran, spent, done, Meaning, Part, runs, is_label, entry, landed, jump, again}
 use Rattle.cs_meaning.specs.Meaning.{Node, Handler, Branch, node, part, handler, branch, stmt_meaning, block_meaning}
 

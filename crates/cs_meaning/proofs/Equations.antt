@@ -1,12 +1,12 @@
 -- The meaning of each form of tree, from the meanings of its parts.
 use Rattle.std.proofs.Common.{◌≡◌, ℕ, false, Some, None, sym, ap, ◌∙◌}
-use Rattle.cs_meaning.specs.declared.tree.Literal.{Literal}
-use Rattle.cs_meaning.specs.declared.tree.BinaryOp.{BinaryOp}
-use Rattle.cs_meaning.specs.declared.tree.Expr.{Expr}
-use Rattle.cs_meaning.specs.declared.tree.Expr.TheVariants as expr
-use Rattle.cs_meaning.specs.declared.tree.Stmt.TheVariants as stmt
-use Rattle.cs_meaning.specs.declared.tree.Expr.TheOpen.{Expr-F, Stmt-F}
-use Rattle.cs_meaning.specs.declared.tree.Expr.TheFolds.{fold-roll-Expr, fold-roll-Stmt}
+use Rattle.cs_body.specs.declared.tree.Literal.{Literal}
+use Rattle.cs_body.specs.declared.tree.BinaryOp.{BinaryOp}
+use Rattle.cs_body.specs.declared.tree.Expr.{Expr}
+use Rattle.cs_body.specs.declared.tree.Expr.TheVariants as expr
+use Rattle.cs_body.specs.declared.tree.Stmt.TheVariants as stmt
+use Rattle.cs_body.specs.declared.tree.Expr.TheOpen.{Expr-F, Stmt-F}
+use Rattle.cs_body.specs.declared.tree.Expr.TheFolds.{fold-roll-Expr, fold-roll-Stmt}
 use Rattle.cs_meaning.specs.Ran.{valued, Part}
 use Rattle.cs_meaning.specs.Meaning.{Node, Handler, Branch, node, part, handler, branch, expr_meaning, stmt_meaning, literal_value, binary, part_of, declares, returns, read_node}
 

@@ -1,16 +1,16 @@
 -- The body of the tests is typed and definitely assigned.
 use Rattle.std.proofs.Common.{◌≡◌, List, [], ◌∷◌, All, false, refl, arith}
 use Rattle.std.proofs.lemmas.List.Elements.{All-cons}
-use Rattle.cs_meaning.specs.declared.body.Home.{Home}
-use Rattle.cs_meaning.specs.declared.body.Var.{Var as Variable}
-use Rattle.cs_meaning.specs.declared.tree.BinaryOp.{BinaryOp}
-use Rattle.cs_meaning.specs.declared.tree.Stmt.{Stmt}
-use Rattle.cs_meaning.specs.declared.tree.Expr.TheVariants as expr
+use Rattle.cs_body.specs.declared.body.Home.{Home}
+use Rattle.cs_body.specs.declared.body.Var.{Var as Variable}
+use Rattle.cs_body.specs.declared.tree.BinaryOp.{BinaryOp}
+use Rattle.cs_body.specs.declared.tree.Stmt.{Stmt}
+use Rattle.cs_body.specs.declared.tree.Expr.TheVariants as expr
 use Rattle.cs_meaning.specs.Typed as typed
 use Rattle.cs_meaning.specs.Typed.{int_ty, IsArithmetic, IsIntLocal, IsLoneTyped}
 use Rattle.cs_meaning.specs.Assigned as reads
 use Rattle.cs_meaning.specs.Assigned.{RunsAssigned, params_from}
-use Rattle.cs_meaning.specs.declared.body.Role.TheVariants.{Param, SlotVar}
+use Rattle.cs_body.specs.declared.body.Role.TheVariants.{Param, SlotVar}
 use Rattle.cs_meaning.specs.Samples.{int_var, lone_vars, flat_stmts}
 
 int_param : typed.IsIntParam (int_var Param)

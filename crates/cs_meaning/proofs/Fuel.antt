@@ -4,9 +4,9 @@ use Rattle.std.proofs.lemmas.Bool.{cases_lt}
 use Rattle.cs_meaning.specs.declared.state.State.{State}
 use Rattle.cs_meaning.specs.declared.state.End.{End}
 use Rattle.cs_meaning.specs.declared.state.End.TheVariants.{Falls, Breaks, Continues, Goes, Returns, Throws, Asks, Wrong}
-use Rattle.cs_meaning.specs.declared.tree.Stmt.{Stmt}
-use Rattle.cs_meaning.specs.declared.tree.Expr.TheOpen.{Stmt-F}
-use Rattle.cs_meaning.specs.declared.tree.Stmt.{fold_out-Stmt}
+use Rattle.cs_body.specs.declared.tree.Stmt.{Stmt}
+use Rattle.cs_body.specs.declared.tree.Expr.TheOpen.{Stmt-F}
+use Rattle.cs_body.specs.declared.tree.Stmt.{fold_out-Stmt}
 use Rattle.cs_meaning.specs.Ran.{Valued, gives, stops, Ran, spent, done, Meaning, end_of, with_value, begun, wrong, Part, after, runs, is_label, entry, landed, jump, again, block, store, assigned}
 use Rattle.cs_meaning.specs.Meaning.{Node, Handler, Branch, node, part, handler, branch, stmt_meaning, part_of, declares, returns, block_meaning}
 

@@ -2,19 +2,19 @@
 use Rattle.std.proofs.Common.{◌≡◌, ℕ, zero, suc, ◌+◌, ◌<◌, ◌≤◌, true, false, List, [], ◌∷◌, length, Option, Some, None, Ok, slice_index_or, ℤ, ◌+ℤ◌, ◌-ℤ◌, ◌*ℤ◌, refl, ap, ◌∙◌, subst, arith, slice_get, slice_set, All, Contains, ⊎_elim, ◌≢◌, eqb}
 use Rattle.std.specs.Int.{int_wrap}
 use mir.Syntax.{w32}
-use Rattle.cs_meaning.specs.declared.body.Body.{Body}
-use Rattle.cs_meaning.specs.declared.body.Var.{Var as Variable}
-use Rattle.cs_meaning.specs.declared.body.Role.TheVariants.{Param, Local, SlotVar, Join, Captured}
-use Rattle.cs_meaning.specs.declared.body.Role.{Role}
+use Rattle.cs_body.specs.declared.body.Body.{Body}
+use Rattle.cs_body.specs.declared.body.Var.{Var as Variable}
+use Rattle.cs_body.specs.declared.body.Role.TheVariants.{Param, Local, SlotVar, Join, Captured}
+use Rattle.cs_body.specs.declared.body.Role.{Role}
 use Rattle.cs_meaning.specs.declared.state.State.{State}
 use Rattle.cs_meaning.specs.declared.state.Value.{Value}
 use Rattle.cs_meaning.specs.declared.state.Value.TheVariants.{Int}
-use Rattle.cs_meaning.specs.declared.tree.BinaryOp.{BinaryOp}
-use Rattle.cs_meaning.specs.declared.tree.Expr.{Expr}
-use Rattle.cs_meaning.specs.declared.tree.Expr.TheVariants as expr
-use Rattle.cs_meaning.specs.declared.tree.Expr.TheBlock.{hidden-the_row-Expr-0}
+use Rattle.cs_body.specs.declared.tree.BinaryOp.{BinaryOp}
+use Rattle.cs_body.specs.declared.tree.Expr.{Expr}
+use Rattle.cs_body.specs.declared.tree.Expr.TheVariants as expr
+use Rattle.cs_body.specs.declared.tree.Expr.TheBlock.{hidden-the_row-Expr-0}
 use denote.Hole.Carrier.{hidden}
-use Rattle.cs_meaning.specs.declared.tree.Stmt.{Stmt}
+use Rattle.cs_body.specs.declared.tree.Stmt.{Stmt}
 use Rattle.cs_meaning.specs.Ran.{assigned, end_of}
 use Rattle.cs_meaning.specs.Run.{EndsAs, returned_int}
 use Rattle.cs_meaning.specs.declared.state.End.{End}

@@ -4,18 +4,18 @@ use Rattle.std.proofs.Common.{◌+ℤ◌, ◌-ℤ◌, ◌*ℤ◌}
 use Rattle.std.specs.Int.{int_wrap}
 use mir.Syntax.{w32}
 use borrow.Author.Tests.{lt-ltb}
-use Rattle.cs_meaning.specs.declared.body.Body.{Body}
+use Rattle.cs_body.specs.declared.body.Body.{Body}
 use Rattle.cs_meaning.specs.declared.state.State.{State}
 use Rattle.cs_meaning.specs.declared.state.Value.{Value}
 use Rattle.cs_meaning.specs.declared.state.Value.TheVariants.{Int}
 use Rattle.cs_meaning.specs.declared.state.End.TheVariants.{Returns}
-use Rattle.cs_meaning.specs.declared.tree.Literal.TheVariants as literal
-use Rattle.cs_meaning.specs.declared.tree.BinaryOp.{BinaryOp}
-use Rattle.cs_meaning.specs.declared.tree.BinaryOp.TheVariants.{Add, Sub, Mul}
-use Rattle.cs_meaning.specs.declared.tree.Expr.{Expr}
-use Rattle.cs_meaning.specs.declared.tree.Expr.TheVariants as expr
-use Rattle.cs_meaning.specs.declared.tree.Stmt.{Stmt}
-use Rattle.cs_meaning.specs.declared.tree.Stmt.TheVariants as stmt
+use Rattle.cs_body.specs.declared.tree.Literal.TheVariants as literal
+use Rattle.cs_body.specs.declared.tree.BinaryOp.{BinaryOp}
+use Rattle.cs_body.specs.declared.tree.BinaryOp.TheVariants.{Add, Sub, Mul}
+use Rattle.cs_body.specs.declared.tree.Expr.{Expr}
+use Rattle.cs_body.specs.declared.tree.Expr.TheVariants as expr
+use Rattle.cs_body.specs.declared.tree.Stmt.{Stmt}
+use Rattle.cs_body.specs.declared.tree.Stmt.TheVariants as stmt
 use Rattle.cs_meaning.specs.Ran.{gives, done, Meaning, end_of, valued, value_in, assigned, Part, after, runs, entry, again}
 use Rattle.cs_meaning.specs.Laws.{Gives, RunsTo}
 use Rattle.cs_meaning.specs.Meaning.{Node, int_result, expr_meaning, stmt_meaning, block_meaning, initial, CsReturns}

@@ -1,17 +1,17 @@
 -- What follows from the meaning of expressions and statements, for the crates above.
 use Rattle.std.specs.Prelude.{◌≡◌, ℕ, suc, ◌<◌, ℤ, ◌+ℤ◌, ◌-ℤ◌, ◌*ℤ◌, false, List, ◌∷◌, length, Some, map, slice_get}
 use Rattle.std.specs.Int.{w32, int_wrap}
-use Rattle.cs_meaning.specs.declared.body.Body.{Body}
+use Rattle.cs_body.specs.declared.body.Body.{Body}
 use Rattle.cs_meaning.specs.declared.state.State.{State}
 use Rattle.cs_meaning.specs.declared.state.Value.TheVariants.{Int}
 use Rattle.cs_meaning.specs.declared.state.End.TheVariants.{Returns}
-use Rattle.cs_meaning.specs.declared.tree.Literal.TheVariants as literal
-use Rattle.cs_meaning.specs.declared.tree.BinaryOp.{BinaryOp}
-use Rattle.cs_meaning.specs.declared.tree.BinaryOp.TheVariants.{Add, Sub, Mul}
-use Rattle.cs_meaning.specs.declared.tree.Expr.{Expr}
-use Rattle.cs_meaning.specs.declared.tree.Expr.TheVariants as expr
-use Rattle.cs_meaning.specs.declared.tree.Stmt.{Stmt}
-use Rattle.cs_meaning.specs.declared.tree.Stmt.TheVariants as stmt
+use Rattle.cs_body.specs.declared.tree.Literal.TheVariants as literal
+use Rattle.cs_body.specs.declared.tree.BinaryOp.{BinaryOp}
+use Rattle.cs_body.specs.declared.tree.BinaryOp.TheVariants.{Add, Sub, Mul}
+use Rattle.cs_body.specs.declared.tree.Expr.{Expr}
+use Rattle.cs_body.specs.declared.tree.Expr.TheVariants as expr
+use Rattle.cs_body.specs.declared.tree.Stmt.{Stmt}
+use Rattle.cs_body.specs.declared.tree.Stmt.TheVariants as stmt
 use Rattle.cs_meaning.specs.Ran.{gives, done, assigned, runs}
 use Rattle.cs_meaning.specs.Meaning.{expr_meaning, stmt_meaning, initial, CsReturns}
 

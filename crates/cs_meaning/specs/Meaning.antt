@@ -5,19 +5,19 @@ use Rattle.std.specs.Prelude.{◌≡◌, ℕ, false, List, [], ◌∷◌, map, O
 use Rattle.std.specs.Int.{int_wrap}
 use mir.Syntax.{w32}
 use Rattle.dc_base.specs.declared.names.TypeId.{TypeId}
-use Rattle.cs_meaning.specs.declared.body.Body.{Body}
-use Rattle.cs_meaning.specs.declared.body.Var.{Var as Variable}
-use Rattle.cs_meaning.specs.declared.body.Role.{Role}
-use Rattle.cs_meaning.specs.declared.body.Role.TheVariants.{Param}
-use Rattle.cs_meaning.specs.declared.tree.Literal.{Literal}
-use Rattle.cs_meaning.specs.declared.tree.Literal.TheVariants as literal
-use Rattle.cs_meaning.specs.declared.tree.BinaryOp.{BinaryOp}
-use Rattle.cs_meaning.specs.declared.tree.BinaryOp.TheVariants.{Add, Sub, Mul}
-use Rattle.cs_meaning.specs.declared.tree.Case.{Case}
-use Rattle.cs_meaning.specs.declared.tree.Expr.{Expr}
-use Rattle.cs_meaning.specs.declared.tree.Stmt.{Stmt}
-use Rattle.cs_meaning.specs.declared.tree.Expr.TheOpen.{Expr-F, Stmt-F, Catch-F, Section-F}
-use Rattle.cs_meaning.specs.declared.tree.Expr.TheFolds.{fold-Expr, fold-Stmt}
+use Rattle.cs_body.specs.declared.body.Body.{Body}
+use Rattle.cs_body.specs.declared.body.Var.{Var as Variable}
+use Rattle.cs_body.specs.declared.body.Role.{Role}
+use Rattle.cs_body.specs.declared.body.Role.TheVariants.{Param}
+use Rattle.cs_body.specs.declared.tree.Literal.{Literal}
+use Rattle.cs_body.specs.declared.tree.Literal.TheVariants as literal
+use Rattle.cs_body.specs.declared.tree.BinaryOp.{BinaryOp}
+use Rattle.cs_body.specs.declared.tree.BinaryOp.TheVariants.{Add, Sub, Mul}
+use Rattle.cs_body.specs.declared.tree.Case.{Case}
+use Rattle.cs_body.specs.declared.tree.Expr.{Expr}
+use Rattle.cs_body.specs.declared.tree.Stmt.{Stmt}
+use Rattle.cs_body.specs.declared.tree.Expr.TheOpen.{Expr-F, Stmt-F, Catch-F, Section-F}
+use Rattle.cs_body.specs.declared.tree.Expr.TheFolds.{fold-Expr, fold-Stmt}
 use Rattle.cs_meaning.specs.declared.state.Value.{Value}
 use Rattle.cs_meaning.specs.declared.state.Value.TheVariants.{Int}
 use Rattle.cs_meaning.specs.declared.state.State.{State}

@@ -1,12 +1,12 @@
 -- A lone body for the tests.
 use Rattle.std.specs.Prelude.{false, List, [], ◌∷◌, Some}
-use Rattle.cs_meaning.specs.declared.body.Var.{Var as Variable}
-use Rattle.cs_meaning.specs.declared.body.Role.{Role}
-use Rattle.cs_meaning.specs.declared.body.Role.TheVariants.{Param, SlotVar}
-use Rattle.cs_meaning.specs.declared.tree.BinaryOp.{BinaryOp}
-use Rattle.cs_meaning.specs.declared.tree.Expr.TheVariants as expr
-use Rattle.cs_meaning.specs.declared.tree.Stmt.{Stmt}
-use Rattle.cs_meaning.specs.declared.tree.Stmt.TheVariants as stmt
+use Rattle.cs_body.specs.declared.body.Var.{Var as Variable}
+use Rattle.cs_body.specs.declared.body.Role.{Role}
+use Rattle.cs_body.specs.declared.body.Role.TheVariants.{Param, SlotVar}
+use Rattle.cs_body.specs.declared.tree.BinaryOp.{BinaryOp}
+use Rattle.cs_body.specs.declared.tree.Expr.TheVariants as expr
+use Rattle.cs_body.specs.declared.tree.Stmt.{Stmt}
+use Rattle.cs_body.specs.declared.tree.Stmt.TheVariants as stmt
 use Rattle.cs_meaning.specs.Typed.{int_ty}
 
 abbrev pub int_var : Role → Variable

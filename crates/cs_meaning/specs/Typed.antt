@@ -4,16 +4,16 @@ use Rattle.std.specs.Prelude.{Some}
 use Rattle.dc_base.specs.declared.ty.Ty.{Ty}
 use Rattle.dc_base.specs.declared.ty.Core.TheVariants.{Prim}
 use Rattle.dc_base.specs.declared.ty.Prim_.TheVariants.{I4}
-use Rattle.cs_meaning.specs.declared.body.Body.{Body}
-use Rattle.cs_meaning.specs.declared.body.Var.{Var as Variable}
-use Rattle.cs_meaning.specs.declared.body.Role.TheVariants.{Param}
-use Rattle.cs_meaning.specs.declared.tree.Literal.TheVariants.{Int}
-use Rattle.cs_meaning.specs.declared.tree.BinaryOp.{BinaryOp}
-use Rattle.cs_meaning.specs.declared.tree.BinaryOp.TheVariants.{Add, Sub, Mul}
-use Rattle.cs_meaning.specs.declared.tree.Expr.{Expr}
-use Rattle.cs_meaning.specs.declared.tree.Expr.TheVariants as expr
-use Rattle.cs_meaning.specs.declared.tree.Stmt.{Stmt}
-use Rattle.cs_meaning.specs.declared.tree.Stmt.TheVariants as stmt
+use Rattle.cs_body.specs.declared.body.Body.{Body}
+use Rattle.cs_body.specs.declared.body.Var.{Var as Variable}
+use Rattle.cs_body.specs.declared.body.Role.TheVariants.{Param}
+use Rattle.cs_body.specs.declared.tree.Literal.TheVariants.{Int}
+use Rattle.cs_body.specs.declared.tree.BinaryOp.{BinaryOp}
+use Rattle.cs_body.specs.declared.tree.BinaryOp.TheVariants.{Add, Sub, Mul}
+use Rattle.cs_body.specs.declared.tree.Expr.{Expr}
+use Rattle.cs_body.specs.declared.tree.Expr.TheVariants as expr
+use Rattle.cs_body.specs.declared.tree.Stmt.{Stmt}
+use Rattle.cs_body.specs.declared.tree.Stmt.TheVariants as stmt
 
 -- the type `int` (ECMA-334, 8.3.6)
 abbrev pub int_ty : Ty

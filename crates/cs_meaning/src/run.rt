@@ -7,9 +7,8 @@ ghost use Rattle.cs_meaning.specs.Ran.{done, runs, store, variable};
 ghost use Rattle.cs_meaning.specs.Run.{ComesTo, EndsAs, returned_int};
 ghost use Rattle.cs_meaning.specs.Typed.{IsLoneTyped};
 
-use crate::body::{Body, Role, Var};
 use crate::state::{End, State, Value};
-use crate::tree::{BinaryOp, Expr, Literal, Stmt};
+use cs_body::{BinaryOp, Body, Expr, Literal, Role, Stmt, Var};
 use dc_base::{Items, NoMemory};
 use std::alloc::Global;
 

@@ -5,9 +5,8 @@ ghost use Rattle.cs_meaning.specs.Assigned.{IsDefinitelyAssigned};
 ghost use Rattle.cs_meaning.specs.Typed.{IsArithmetic, IsLoneTyped, int_ty};
 ghost use Rattle.cs_meaning.specs.Samples.{flat_stmts, lone_vars};
 
-use crate::body::{Body, Home, Role, Var};
 use crate::run::lone_exec;
-use crate::tree::{BinaryOp, Expr, Literal, Stmt};
+use cs_body::{BinaryOp, Body, Expr, Home, Literal, Role, Stmt, Var};
 use dc_base::{Boxed, Core, Items, NoMemory, Prim_, Seq, Ty};
 use std::alloc::Global;
 use std::test::Fail;
@@ -108,14 +107,5 @@ fn keeps_the_low_bits_at_the_edges(rt: HostRuntime) -> Result<(), Fail> {
     assert_eq!(rt; called(rt.alloc(), BinaryOp::Sub, i32::MIN, 1)?, i32::MAX);
     assert_eq!(rt; called(rt.alloc(), BinaryOp::Mul, i32::MIN, -1)?, i32::MIN);
     assert_eq!(rt; called(rt.alloc(), BinaryOp::Mul, 65536, 65537)?, 65536);
-    Ok(())
-}
-
-#[test]
-fn a_copy_is_the_same(rt: HostRuntime) -> Result<(), Fail> {
-    let alloc = rt.alloc();
-    let sum = flat(alloc, BinaryOp::Add)?;
-    assert!(rt; sum.same(&sum.copied(alloc)?));
-    assert!(rt; !sum.same(&flat(alloc, BinaryOp::Sub)?));
     Ok(())
 }

@@ -5,16 +5,16 @@ use Rattle.std.proofs.lemmas.List.{length-replicate}
 use Rattle.std.proofs.lemmas.List.Elements.{All-from_recursion, Contains-append_right}
 use Rattle.cil_lone.specs.Row.{row_of}
 use Rattle.cil_lone.specs.Cut.{Placed}
-use Rattle.cs_meaning.specs.declared.body.Role.{Role}
-use Rattle.cs_meaning.specs.declared.body.Role.TheVariants.{Param}
-use Rattle.cs_meaning.specs.declared.tree.Literal.TheVariants.{Int}
-use Rattle.cs_meaning.specs.declared.tree.Expr.{Expr}
-use Rattle.cs_meaning.specs.declared.tree.Expr.TheVariants as expr
+use Rattle.cs_body.specs.declared.body.Role.{Role}
+use Rattle.cs_body.specs.declared.body.Role.TheVariants.{Param}
+use Rattle.cs_body.specs.declared.tree.Literal.TheVariants.{Int}
+use Rattle.cs_body.specs.declared.tree.Expr.{Expr}
+use Rattle.cs_body.specs.declared.tree.Expr.TheVariants as expr
 use Rattle.std.specs.List.{AllByRecursion}
-use Rattle.cs_meaning.specs.declared.tree.Expr.TheOpen.{Stmt-F}
-use Rattle.cs_meaning.specs.declared.tree.Expr.TheFolds.{fold-roll-Stmt}
-use Rattle.cs_meaning.specs.declared.tree.Stmt.{Stmt}
-use Rattle.cs_meaning.specs.declared.tree.Stmt.TheVariants as stmt
+use Rattle.cs_body.specs.declared.tree.Expr.TheOpen.{Stmt-F}
+use Rattle.cs_body.specs.declared.tree.Expr.TheFolds.{fold-roll-Stmt}
+use Rattle.cs_body.specs.declared.tree.Stmt.{Stmt}
+use Rattle.cs_body.specs.declared.tree.Stmt.TheVariants as stmt
 use Rattle.cs_meaning.specs.Typed as typed
 use Rattle.cs_meaning.specs.Typed.{IsIntExpr, AreLoneStmts, IsLoneTyped, IsIntParam, IsIntLocal, AreLoneVars}
 use Rattle.cs_meaning.specs.Assigned as reads

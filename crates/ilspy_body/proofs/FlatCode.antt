@@ -3,10 +3,10 @@ use Rattle.std.proofs.Common.{◌≡◌, ℕ, ◌+◌, ◌≤◌, ◌<◌, List,
 use Rattle.std.proofs.lemmas.List.{append-nil, drop_all}
 use Rattle.cil_lone.specs.Row.{row_of}
 use Rattle.cil_lone.specs.Cut.{Placed}
-use Rattle.cs_meaning.specs.declared.tree.Expr.{Expr}
-use Rattle.cs_meaning.specs.declared.tree.Expr.TheVariants as expr
-use Rattle.cs_meaning.specs.declared.tree.Stmt.{Stmt}
-use Rattle.cs_meaning.specs.declared.tree.Stmt.TheVariants as stmt
+use Rattle.cs_body.specs.declared.tree.Expr.{Expr}
+use Rattle.cs_body.specs.declared.tree.Expr.TheVariants as expr
+use Rattle.cs_body.specs.declared.tree.Stmt.{Stmt}
+use Rattle.cs_body.specs.declared.tree.Stmt.TheVariants as stmt
 use Rattle.ilspy_body.proofs.FlatBody.{declared_in-decl, declared_in-return}
 use Rattle.ilspy_body.specs.Flat.{declarations, returned, declared_by, flat_from, Pushes}
 

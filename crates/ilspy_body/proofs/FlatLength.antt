@@ -2,8 +2,8 @@
 use Rattle.std.proofs.Common.{ℕ, ◌+◌, ◌≤◌, List, [], ◌∷◌, length, Option, Some, None, arith}
 use Rattle.cil_lone.specs.Row.{row_of}
 use Rattle.cil_lone.specs.Cut.{Placed}
-use Rattle.cs_meaning.specs.declared.tree.Expr.{Expr}
-use Rattle.cs_meaning.specs.declared.tree.Stmt.{Stmt}
+use Rattle.cs_body.specs.declared.tree.Expr.{Expr}
+use Rattle.cs_body.specs.declared.tree.Stmt.{Stmt}
 use Rattle.ilspy_body.specs.Flat.{pushed, returned, declared_by, flat_from}
 
 -- a return is one statement

@@ -11,12 +11,12 @@ use Rattle.cil_lone.specs.declared.row.Two.TheVariants.{Add, Sub, Mul}
 use Rattle.cil_lone.specs.Row.{row_of}
 use Rattle.cil_lone.specs.Cut.{Placed}
 use Rattle.cil_lone.specs.Lone.{depth_after, DoesItsPart, Walks}
-use Rattle.cs_meaning.specs.declared.tree.Literal.TheVariants.{Int}
-use Rattle.cs_meaning.specs.declared.tree.BinaryOp.{BinaryOp}
-use Rattle.cs_meaning.specs.declared.tree.Expr.{Expr}
-use Rattle.cs_meaning.specs.declared.tree.Expr.TheVariants as expr
-use Rattle.cs_meaning.specs.declared.tree.Stmt.{Stmt}
-use Rattle.cs_meaning.specs.declared.tree.Stmt.TheVariants as stmt
+use Rattle.cs_body.specs.declared.tree.Literal.TheVariants.{Int}
+use Rattle.cs_body.specs.declared.tree.BinaryOp.{BinaryOp}
+use Rattle.cs_body.specs.declared.tree.Expr.{Expr}
+use Rattle.cs_body.specs.declared.tree.Expr.TheVariants as expr
+use Rattle.cs_body.specs.declared.tree.Stmt.{Stmt}
+use Rattle.cs_body.specs.declared.tree.Stmt.TheVariants as stmt
 use Rattle.cs_meaning.specs.Typed.{IsArithmetic, add, sub, mul}
 use Rattle.ilspy_body.specs.Flat.{sign_of, loaded_form, pushed, declared_by, flat_from}
 

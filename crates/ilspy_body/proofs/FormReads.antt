@@ -3,10 +3,10 @@ use Rattle.std.proofs.Common.{◌≡◌, ℕ, suc, ◌^◌, ◌<◌, ◌≤◌, 
 use Rattle.std.specs.Str.Parse.{IsNumeral}
 use Rattle.std.proofs.lemmas.Fmt.{decimal_is_IsNumeral}
 use Rattle.std.proofs.lemmas.Bool.{and_parts, and_cases, true≢false, leb-true, lt-ltb, le-leb, cond-true, agree_below_at}
-use Rattle.cs_meaning.specs.declared.tree.Literal.TheVariants.{Int}
-use Rattle.cs_meaning.specs.declared.tree.BinaryOp.{BinaryOp}
-use Rattle.cs_meaning.specs.declared.tree.Expr.{Expr}
-use Rattle.cs_meaning.specs.declared.tree.Expr.TheVariants as expr
+use Rattle.cs_body.specs.declared.tree.Literal.TheVariants.{Int}
+use Rattle.cs_body.specs.declared.tree.BinaryOp.{BinaryOp}
+use Rattle.cs_body.specs.declared.tree.Expr.{Expr}
+use Rattle.cs_body.specs.declared.tree.Expr.TheVariants as expr
 use Rattle.cs_meaning.specs.Typed.{IsArithmetic, add, sub, mul}
 use Rattle.ilspy_body.specs.Tokens.{Token, Name, Number, Sign, is_digit, is_part, is_sign, begins_longer, EndsBefore, AreTokens}
 use Rattle.ilspy_body.specs.Tree.{Form, Literal, Named, Minus, Operator, IsForm, Sum, Unary, literal, named, minus, product, sum, difference, as_unary, as_product, as_sum}

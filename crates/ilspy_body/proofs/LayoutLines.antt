@@ -1,13 +1,13 @@
 -- The text of each form of a flat statement.
 use Rattle.std.proofs.Common.{◌≡◌, ℕ, false, List, [], ◌∷◌, ◌++◌, Some, codes, ℤ, sym, ap, ◌∙◌, append_assoc}
 use Rattle.std.specs.Fmt.{signed_decimal}
-use Rattle.cs_meaning.specs.declared.tree.Literal.TheVariants.{Int}
-use Rattle.cs_meaning.specs.declared.tree.BinaryOp.{BinaryOp}
-use Rattle.cs_meaning.specs.declared.tree.Expr.{Expr}
-use Rattle.cs_meaning.specs.declared.tree.Expr.TheVariants as expr
-use Rattle.cs_meaning.specs.declared.tree.Stmt.TheVariants as stmt
-use Rattle.cs_meaning.specs.declared.tree.Expr.TheOpen.{Expr-F, Stmt-F}
-use Rattle.cs_meaning.specs.declared.tree.Expr.TheFolds.{fold-roll-Expr, fold-roll-Stmt}
+use Rattle.cs_body.specs.declared.tree.Literal.TheVariants.{Int}
+use Rattle.cs_body.specs.declared.tree.BinaryOp.{BinaryOp}
+use Rattle.cs_body.specs.declared.tree.Expr.{Expr}
+use Rattle.cs_body.specs.declared.tree.Expr.TheVariants as expr
+use Rattle.cs_body.specs.declared.tree.Stmt.TheVariants as stmt
+use Rattle.cs_body.specs.declared.tree.Expr.TheOpen.{Expr-F, Stmt-F}
+use Rattle.cs_body.specs.declared.tree.Expr.TheFolds.{fold-roll-Expr, fold-roll-Stmt}
 use Rattle.ilspy_body.specs.Layout.{name_of, sign_text, form, line, form_text, line_text}
 
 -- the text of an int is its number

@@ -1,6 +1,6 @@
 -- The text reads as one tree, whose body is that of the flat form; and the flat form returns what the code returns.
 use Rattle.std.proofs.Common.{ℕ, ◌≤◌, ◌<◌, ◌^◌, List, [], length, arith}
-use Rattle.cs_meaning.specs.declared.body.Role.TheVariants.{Local, SlotVar}
+use Rattle.cs_body.specs.declared.body.Role.TheVariants.{Local, SlotVar}
 use Rattle.ilspy_body.specs.Flat.{flat_from, lone_body, flat_of}
 use Rattle.ilspy_body.specs.Layout.{text_of}
 use Rattle.ilspy_body.proofs.CilRuns.{consecutive_length}

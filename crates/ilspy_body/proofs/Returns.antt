@@ -6,9 +6,9 @@ use Rattle.cil_lone.specs.Cut.{Placed, IsConsecutive}
 use Rattle.cil_lone.specs.Lone.{Walks, IsLone}
 use Rattle.cil_lone.specs.Laws.{CodeWalks, CodeIsConsecutive, OperandsFit as LoneOperandsFit}
 use Rattle.cil_meaning.specs.Meaning.{CilReturns}
-use Rattle.cs_meaning.specs.declared.body.Role.{Role}
-use Rattle.cs_meaning.specs.declared.body.Role.TheVariants.{Param}
-use Rattle.cs_meaning.specs.declared.body.Var.{Var as Variable}
+use Rattle.cs_body.specs.declared.body.Role.{Role}
+use Rattle.cs_body.specs.declared.body.Role.TheVariants.{Param}
+use Rattle.cs_body.specs.declared.body.Var.{Var as Variable}
 use Rattle.cs_meaning.specs.declared.state.State.{State}
 use Rattle.cs_meaning.specs.declared.state.Value.TheVariants.{Int}
 use Rattle.cs_meaning.specs.Meaning.{args_left, first_values, CsReturns}

@@ -17,10 +17,10 @@ use Rattle.cil_meaning.specs.declared.machine.LoneStepped.TheVariants.{Next}
 use Rattle.cil_meaning.specs.Step.{loaded_of, result_of, load_of, onward_of, act_by, step}
 use Rattle.cs_meaning.specs.declared.state.State.{State}
 use Rattle.cs_meaning.specs.declared.state.Value.TheVariants.{Int}
-use Rattle.cs_meaning.specs.declared.tree.Expr.{Expr}
-use Rattle.cs_meaning.specs.declared.tree.Expr.TheVariants as expr
-use Rattle.cs_meaning.specs.declared.tree.Stmt.{Stmt}
-use Rattle.cs_meaning.specs.declared.tree.Stmt.TheVariants as stmt
+use Rattle.cs_body.specs.declared.tree.Expr.{Expr}
+use Rattle.cs_body.specs.declared.tree.Expr.TheVariants as expr
+use Rattle.cs_body.specs.declared.tree.Stmt.{Stmt}
+use Rattle.cs_body.specs.declared.tree.Stmt.TheVariants as stmt
 use Rattle.cs_meaning.specs.Ran.{assigned}
 use Rattle.cs_meaning.specs.Laws.{Gives, RunsTo}
 use Rattle.cs_meaning.proofs.Consequences.{literals_give, variables_give, sums_give, differences_give, products_give, declarations_run, returns_end}

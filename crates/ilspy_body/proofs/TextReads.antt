@@ -1,12 +1,12 @@
 -- How the text of a lone body reads: as the tree of a method, which means the body.
 use Rattle.std.proofs.Common.{◌≡◌, ℕ, ◌+◌, ◌^◌, ◌<◌, ◌≤◌, false, List, [], ◌∷◌, ◌++◌, length, drop, codes, Some, option_map, flat_map, refl, ap, append_assoc, append-nil, add-one, lit<, arith}
 use Rattle.std.proofs.lemmas.Fmt.{decimal_digit}
-use Rattle.cs_meaning.specs.declared.body.Role.{Role}
-use Rattle.cs_meaning.specs.declared.body.Role.TheVariants.{Local}
-use Rattle.cs_meaning.specs.declared.tree.Expr.{Expr}
-use Rattle.cs_meaning.specs.declared.tree.Expr.TheVariants as expr
-use Rattle.cs_meaning.specs.declared.tree.Stmt.{Stmt}
-use Rattle.cs_meaning.specs.declared.tree.Stmt.TheVariants as stmt
+use Rattle.cs_body.specs.declared.body.Role.{Role}
+use Rattle.cs_body.specs.declared.body.Role.TheVariants.{Local}
+use Rattle.cs_body.specs.declared.tree.Expr.{Expr}
+use Rattle.cs_body.specs.declared.tree.Expr.TheVariants as expr
+use Rattle.cs_body.specs.declared.tree.Stmt.{Stmt}
+use Rattle.cs_body.specs.declared.tree.Stmt.TheVariants as stmt
 use Rattle.ilspy_body.specs.Tokens.{Token, Keyword, Name, Sign, is_part, AreTokens}
 use Rattle.ilspy_body.specs.Tree.{Form, Line, Declares, Returns, Method, int_word, AreLines, params_tokens, IsTree}
 use Rattle.ilspy_body.specs.Elaborate.{Scope, expr_of, stmts_of, body_of}

@@ -1,14 +1,14 @@
 -- Which body a tree has (ECMA-334 12.2, 12.8.4, 13.6.2): names are bound to variables, and literals to ints.
 use Rattle.std.specs.Prelude.{ℕ, ◌^◌, Bool, true, false, ◌&&◌, ◌==◌, ℤ, pos, neg_ℤ, List, [], ◌∷◌, ◌++◌, length, Option, Some, None, option_map, option_and_then, is_none, nat_lt, nat_le, if◌then◌else◌, position}
-use Rattle.cs_meaning.specs.declared.body.Body.{Body}
-use Rattle.cs_meaning.specs.declared.body.Role.TheVariants.{Local}
-use Rattle.cs_meaning.specs.declared.tree.Literal.TheVariants.{Int}
-use Rattle.cs_meaning.specs.declared.tree.BinaryOp.{BinaryOp}
-use Rattle.cs_meaning.specs.declared.tree.BinaryOp.TheVariants.{Add, Sub, Mul}
-use Rattle.cs_meaning.specs.declared.tree.Expr.{Expr}
-use Rattle.cs_meaning.specs.declared.tree.Expr.TheVariants as expr
-use Rattle.cs_meaning.specs.declared.tree.Stmt.{Stmt}
-use Rattle.cs_meaning.specs.declared.tree.Stmt.TheVariants as stmt
+use Rattle.cs_body.specs.declared.body.Body.{Body}
+use Rattle.cs_body.specs.declared.body.Role.TheVariants.{Local}
+use Rattle.cs_body.specs.declared.tree.Literal.TheVariants.{Int}
+use Rattle.cs_body.specs.declared.tree.BinaryOp.{BinaryOp}
+use Rattle.cs_body.specs.declared.tree.BinaryOp.TheVariants.{Add, Sub, Mul}
+use Rattle.cs_body.specs.declared.tree.Expr.{Expr}
+use Rattle.cs_body.specs.declared.tree.Expr.TheVariants as expr
+use Rattle.cs_body.specs.declared.tree.Stmt.{Stmt}
+use Rattle.cs_body.specs.declared.tree.Stmt.TheVariants as stmt
 use Rattle.ilspy_body.specs.Tokens.{same_text}
 use Rattle.ilspy_body.specs.Tree.{Form, Literal, Named, Minus, Operator, Line, Declares, Returns, Method}
 use Rattle.ilspy_body.specs.Flat.{lone_body}

@@ -8,20 +8,20 @@ use Rattle.cil_lone.specs.declared.row.Two.{Two}
 use Rattle.cil_lone.specs.declared.row.Two.TheVariants.{Add, Sub, Mul}
 use Rattle.cil_lone.specs.Row.{row_of}
 use Rattle.cil_lone.specs.Cut.{Placed}
-use Rattle.cs_meaning.specs.declared.body.Body.{Body}
-use Rattle.cs_meaning.specs.declared.body.Home.{Home}
-use Rattle.cs_meaning.specs.declared.body.Var.{Var as Variable}
-use Rattle.cs_meaning.specs.declared.body.Role.{Role}
-use Rattle.cs_meaning.specs.declared.body.Role.TheVariants.{Param, SlotVar}
-use Rattle.cs_meaning.specs.declared.tree.Literal.TheVariants.{Int}
-use Rattle.cs_meaning.specs.declared.tree.BinaryOp.{BinaryOp}
-use Rattle.cs_meaning.specs.declared.tree.BinaryOp.TheVariants.{Add as AddInts, Sub as SubInts, Mul as MulInts}
-use Rattle.cs_meaning.specs.declared.tree.Expr.{Expr}
-use Rattle.cs_meaning.specs.declared.tree.Expr.TheVariants as expr
-use Rattle.cs_meaning.specs.declared.tree.Stmt.{Stmt}
-use Rattle.cs_meaning.specs.declared.tree.Stmt.TheVariants as stmt
-use Rattle.cs_meaning.specs.declared.tree.Expr.TheOpen.{Stmt-F}
-use Rattle.cs_meaning.specs.declared.tree.Expr.TheFolds.{fold-Stmt}
+use Rattle.cs_body.specs.declared.body.Body.{Body}
+use Rattle.cs_body.specs.declared.body.Home.{Home}
+use Rattle.cs_body.specs.declared.body.Var.{Var as Variable}
+use Rattle.cs_body.specs.declared.body.Role.{Role}
+use Rattle.cs_body.specs.declared.body.Role.TheVariants.{Param, SlotVar}
+use Rattle.cs_body.specs.declared.tree.Literal.TheVariants.{Int}
+use Rattle.cs_body.specs.declared.tree.BinaryOp.{BinaryOp}
+use Rattle.cs_body.specs.declared.tree.BinaryOp.TheVariants.{Add as AddInts, Sub as SubInts, Mul as MulInts}
+use Rattle.cs_body.specs.declared.tree.Expr.{Expr}
+use Rattle.cs_body.specs.declared.tree.Expr.TheVariants as expr
+use Rattle.cs_body.specs.declared.tree.Stmt.{Stmt}
+use Rattle.cs_body.specs.declared.tree.Stmt.TheVariants as stmt
+use Rattle.cs_body.specs.declared.tree.Expr.TheOpen.{Stmt-F}
+use Rattle.cs_body.specs.declared.tree.Expr.TheFolds.{fold-Stmt}
 use Rattle.cs_meaning.specs.Typed.{int_ty}
 
 -- the operator of C# for one of CIL

@@ -5,7 +5,7 @@ use Rattle.std.specs.Int.RustNames.{FitsSigned}
 use Rattle.cil_lone.specs.Cut.{Placed}
 use Rattle.cil_lone.specs.Lone.{IsLone}
 use Rattle.cil_meaning.specs.Meaning.{CilReturns}
-use Rattle.cs_meaning.specs.declared.body.Body.{Body}
+use Rattle.cs_body.specs.declared.body.Body.{Body}
 use Rattle.cs_meaning.specs.Meaning.{CsReturns}
 use Rattle.cs_meaning.specs.Typed.{IsLoneTyped}
 use Rattle.cs_meaning.specs.Assigned.{IsDefinitelyAssigned}

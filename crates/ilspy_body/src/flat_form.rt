@@ -5,13 +5,13 @@ ghost use Rattle.std.specs.Int.{w32};
 ghost use Rattle.std.specs.Int.RustNames.{FitsSigned};
 ghost use Rattle.cil_lone.specs.Row.{row_of};
 ghost use Rattle.cil_lone.specs.Lone.{IsLone};
-ghost use Rattle.cs_meaning.specs.declared.body.Role.TheVariants.{SlotVar};
+ghost use Rattle.cs_body.specs.declared.body.Role.TheVariants.{SlotVar};
 ghost use Rattle.ilspy_body.specs.Theorem.{RunsAsTheCode};
 ghost use Rattle.ilspy_body.specs.Flat.{flat_of, Pushes, loaded_form, returned, sign_of, int_var, lone_vars, lone_body, declarations};
 
 use cil_instruction::Simple;
 use cil_lone::{Row, Source, Two, balance_is_a_walk, code_fills_the_file};
-use cs_meaning::{BinaryOp, Body, Expr, Home, Literal, Role, Stmt, Var};
+use cs_body::{BinaryOp, Body, Expr, Home, Literal, Role, Stmt, Var};
 use dc_base::{Boxed, Core, Items, NoMemory, Prim_, Seq, Stack, Ty};
 use std::alloc::Global;
 

@@ -5,7 +5,7 @@ ghost use Rattle.std.specs.Fmt.{signed_decimal};
 ghost use Rattle.std.specs.String.{string_bytes};
 ghost use Rattle.ilspy_body.specs.Layout.{text_of, line_text, form_text, name_of, sign_text};
 
-use cs_meaning::{BinaryOp, Body, Expr, Literal, Stmt};
+use cs_body::{BinaryOp, Body, Expr, Literal, Stmt};
 use dc_base::{NoMemory, Text};
 use std::alloc::Global;
 

@@ -1,7 +1,7 @@
 -- The flat form of a lone body's code runs as the code.
 use Rattle.std.proofs.Common.{subst, sym}
 use Rattle.std.proofs.lemmas.Result.{IfOk-weaker}
-use Rattle.cs_meaning.specs.declared.body.Role.TheVariants.{SlotVar}
+use Rattle.cs_body.specs.declared.body.Role.TheVariants.{SlotVar}
 use Rattle.ilspy_body.specs.Theorem.{RunsAsTheCode}
 use Rattle.ilspy_body.proofs.Returns.{LoneLaws, flat_runs_as}
 use Rattle.ilspy_body.proofs.flat_form.flat.Goals as goal

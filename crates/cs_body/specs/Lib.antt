@@ -1,0 +1,1 @@
+-- Trees are types of the code. No definition of theirs is wanted.
