@@ -8,8 +8,8 @@ pub mod Spans
 pub mod Begun
 -- span::ordered
 pub mod Ordered
--- nesting::parents, overlap::first_crossed, overlap::is_crossed, rethrow::handling, rethrow::is_caught, tree::nodes,
--- tree::reaching, tree::too_deep
+-- nesting::parents, overlap::first_crossed, overlap::is_crossed, tree::nodes, tree::reaching_from,
+-- tree::too_deep
 pub mod Chain
 pub mod Nested
 pub mod Depth
@@ -27,8 +27,10 @@ pub mod Whole
 pub mod Partner
 -- region::nested
 pub mod Laminar
--- rethrow::begun, rethrow::handling, rethrow::is_caught
+-- rethrow::begun, rethrow::innermost, rethrow::is_caught
 pub mod Handling
+-- rethrow::catching, rethrow::is_caught
+pub mod Catching
 -- tree::too_deep
 pub mod Deep
 -- region::regions

@@ -68,6 +68,11 @@ pub record AreLinked (nodes : List Region) : Type 0 where
   pub before : (k : ℕ) (d : Region) → 0 < k → k < length nodes → (slice_index_or nodes k d).parent < k
   pub last : (i k : ℕ) (d : Region) → (slice_index_or nodes k d).parent < i → i < k → k < length nodes → (slice_index_or nodes i d).to ≤ (slice_index_or nodes k d).from
 
+-- the nodes behind the node of this number end by the place
+pub record IsStart (nodes : List Region) (place start : ℕ) : Type 0 where
+  pub within : start < length nodes
+  pub behind : (i : ℕ) (d : Region) → start < i → i < length nodes → (slice_index_or nodes i d).to ≤ place
+
 -- the node of this number is the last that ends behind the place
 pub record IsReaching (nodes : List Region) (place at : ℕ) : Type 0 where
   pub within : at < length nodes

@@ -4,4 +4,5 @@ pub mod Laws
 -- Inner facts: what the code goes by.
 pub mod Laid
 pub mod Outlasting
+pub mod Caught
 pub mod Tries

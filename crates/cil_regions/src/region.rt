@@ -72,7 +72,7 @@ pub fn regions(alloc: Global, body: &Body) -> Result<RegionTree, Or<RegionFault>
     ensures fault { IfErr result (IsRegionsRefused body.now) }
 {
     let nodes = nested(alloc, body)?;
-    if let Some(place) = misplaced(body.code.items(), nodes.as_slice()) {
+    if let Some(place) = misplaced(alloc, body.code.items(), nodes.as_slice())? {
         return Err(Or::Fault(RegionFault::RethrowPlace(place)));
     }
     if let Some(place) = too_deep(alloc, nodes.as_slice())? {

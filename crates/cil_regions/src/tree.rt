@@ -1,7 +1,7 @@
 // The tree of regions, and how deep it is.
 
 ghost use Rattle.std.specs.Prelude.{◌≡◌, ◌≤◌, ◌^◌, length, All, IfOk, MatchOption};
-ghost use Rattle.cil_regions.specs.Laid.{AreLaid, AreChained, AreLinked, IsReaching, IsDepthAnswer};
+ghost use Rattle.cil_regions.specs.Laid.{AreLaid, AreChained, AreLinked, IsStart, IsReaching, IsDepthAnswer};
 
 use crate::region::{Region, Span};
 use dc_base::NoMemory;
@@ -35,7 +35,17 @@ pub fn reaching(nodes: &[Region], place: u32) -> Option<usize>
     requires begun { All (λ node. node.from ≤ place) nodes.now }
     ensures { MatchOption result (All (λ node. node.to ≤ place) nodes.now) (IsReaching nodes.now place) }
 {
-    let mut at = nodes.len().checked_sub(1)?;
+    reaching_from(nodes, nodes.len().checked_sub(1)?, place)
+}
+
+/// The same, looked for from a node on behind which all end by the place.
+pub fn reaching_from(nodes: &[Region], start: usize, place: u32) -> Option<usize>
+    requires linked { AreLinked nodes.now }
+    requires begun { All (λ node. node.from ≤ place) nodes.now }
+    requires start { IsStart nodes.now place start }
+    ensures { MatchOption result (All (λ node. node.to ≤ place) nodes.now) (IsReaching nodes.now place) }
+{
+    let mut at = start;
     while nodes[at].to <= place {
         if at == 0 {
             return None;

@@ -10,7 +10,7 @@ use Rattle.pe_image.specs.declared.sections.Span.{Span}
 use Rattle.pe_image.specs.Headers.{table_place}
 use Rattle.pe_image.specs.declared.fault.ImageCause.TheVariants.{NotIlOnly}
 use Rattle.pe_image.specs.Cli.{IsIlOnly, flags_place}
-use Rattle.pe_image.specs.Apart.{AreWithin}
+use Rattle.pe_image.specs.Within.{AreWithin}
 use Rattle.pe_image.specs.Image.{wrong, ReadsHeaders, ReadsSections, ReadsCli, ReadsImage, IsImage}
 use Rattle.pe_image.specs.Laws.{HasOneReading, HasNoFault, HasOneFault, RangesAreWithin, RestsAreWithin, MetadataIsWithin}
 use Rattle.pe_image.proofs.Ranges.{range_at-within, range_from-within}

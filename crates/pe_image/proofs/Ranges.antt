@@ -4,7 +4,7 @@ use Rattle.std.specs.Prelude.{find}
 use Rattle.pe_image.specs.declared.sections.Section.{Section}
 use Rattle.pe_image.specs.declared.sections.Span.{Span}
 use Rattle.pe_image.specs.Sections.{holds, range_at, range_from}
-use Rattle.pe_image.specs.Apart.{AreWithin}
+use Rattle.pe_image.specs.Within.{AreWithin}
 use Rattle.dc_causes.proofs.Order.{all_head, all_tail}
 use Rattle.pe_image.proofs.Options.{chosen, mapped}
 

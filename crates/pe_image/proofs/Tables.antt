@@ -5,7 +5,7 @@ use Rattle.pe_image.specs.declared.sections.Section.{Section}
 use Rattle.pe_image.specs.declared.sections.Table.{Table}
 use Rattle.pe_image.specs.Sections.{section_of}
 use Rattle.pe_image.specs.Table.{sections_from, sections_of, IsTable}
-use Rattle.pe_image.specs.Apart.{AreWithin}
+use Rattle.pe_image.specs.Within.{AreWithin}
 
 pub length-sections_from : (file : List ℕ) (place n : ℕ) → length (sections_from file place n) ≡ n
 length-sections_from file place zero = refl

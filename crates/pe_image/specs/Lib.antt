@@ -8,6 +8,7 @@ pub mod Fault
 pub mod Laws
 -- Inner facts: what is kept in memory.
 pub mod Table
-pub mod Apart
+pub mod Within
+pub mod Blocks
 pub mod View
 pub mod IndexView

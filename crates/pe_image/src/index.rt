@@ -1,25 +1,30 @@
 // The sections of an image, read once for many look-ups.
 
 ghost use Rattle.std.specs.Prelude.{◌≡◌, ◌≤◌, ◌^◌, length, find, IfOk, IfSome, IsTrue, option_map};
-ghost use Rattle.std.specs.Bool.{OnTrue};
 ghost use Rattle.std.specs.Option.{option_copied};
 ghost use Rattle.pe_image.specs.Sections.{holds, range_at, range_from, bytes_in};
 ghost use Rattle.pe_image.specs.Table.{sections_of, IsTable};
-ghost use Rattle.pe_image.specs.Apart.{AreApart};
 
+use crate::blocks::{Reach, blocks, next_reaching};
 use crate::sections::{Section, Table};
 use dc_base::NoMemory;
 use std::alloc::Global;
 use std::marker::Model;
 
-/// The sections of an image in memory, for whoever asks for many addresses. Where each section ends before the next one
-/// begins, as the standard has it, a look-up takes the logarithm of their number; else it goes over all of them. A clause
-/// sees its file and its sections.
+// How many sections make a block, and how many of those blocks a wide one. There are 65,535 sections at most.
+const WIDTH: usize = 64;
+
+const RATIO: usize = 32;
+
+/// The sections of an image in memory, for whoever asks for many addresses. A look-up takes some hundred steps at most,
+/// however many sections there are and however they lie: it looks by halves into wide blocks and into blocks for the first
+/// in which a section holds the bytes, and then at the sections of one block. A clause sees its file and its sections.
 #[derive(Debug, Drop)]
 pub struct ImageIndex<'a> {
     file: &'a [u8],
     sections: Vec<Section>,
-    is_ordered: bool,
+    blocks: Vec<Vec<Reach>>,
+    wide: Vec<Vec<Reach>>,
 }
 
 impl<'a> Model for ImageIndex<'a> {
@@ -46,11 +51,13 @@ impl<'a> ImageIndex<'a> {
         ensures sections { IfOk result (λ index. index.sections ≡ sections_of file.now table) }
     {
         let sections = table.sections(alloc, file)?;
-        let is_ordered = are_apart(sections.as_slice());
+        let wide = blocks(alloc, sections.as_slice(), WIDTH * RATIO)?;
+        let blocks = blocks(alloc, sections.as_slice(), WIDTH)?;
         Ok(ImageIndex {
             file,
             sections,
-            is_ordered,
+            blocks,
+            wide,
         })
     }
 
@@ -81,16 +88,15 @@ impl<'a> ImageIndex<'a> {
         first_of(self.candidates(rva, len), rva, len)
     }
 
-    // Sections among which the first that holds the bytes is the first of all that does.
+    // The sections from the first block on in which one may hold the bytes.
     fn candidates(&self, rva: u32, len: u32) -> &[Section]
         ensures { find (holds rva len) result.now ≡ find (holds rva len) self.now.sections }
     {
         let sections = self.sections.as_slice();
-        if len == 0 || !self.is_ordered {
-            return sections;
-        }
-        let behind = sections.partition_point(|section| section.address <= rva);
-        &sections[behind.saturating_sub(1)..behind]
+        let end = u64::from(rva) + u64::from(len);
+        let wide = next_reaching(self.wide.as_slice(), 0, rva, end);
+        let block = next_reaching(self.blocks.as_slice(), wide * RATIO, rva, end);
+        &sections[sections.len().min(block * WIDTH)..]
     }
 }
 
@@ -105,16 +111,4 @@ fn first_of(sections: &[Section], rva: u32, len: u32) -> Option<Section>
         }
     }
     None
-}
-
-// Whether each section ends before the next one begins.
-fn are_apart(sections: &[Section]) -> bool
-    ensures { OnTrue result (AreApart sections.now) }
-{
-    for i in 1..sections.len() {
-        if sections[i - 1].end() > u64::from(sections[i].address) {
-            return false;
-        }
-    }
-    true
 }

@@ -11,6 +11,7 @@
 //! at each call; whoever looks up many addresses keeps an [`ImageIndex`], which answers the same.
 #![tactic(auto)]
 
+mod blocks;
 mod cli;
 mod fault;
 mod headers;

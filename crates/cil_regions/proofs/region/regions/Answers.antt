@@ -1,4 +1,5 @@
 use Rattle.std.proofs.Common.{ℕ, List, sym, subst}
+use Rattle.std.proofs.lemmas.Option.{MatchOption-at_none, MatchOption-at_some}
 use Rattle.std.specs.List.{All}
 use Rattle.cil_instruction.specs.declared.instruction.Instr.{Instr}
 use Rattle.cil_regions.specs.declared.region.Region.{Region}
@@ -16,7 +17,7 @@ pub returns-in-Some-clause-fault : goal.returns-in-Some-clause-fault
 returns-in-Some-clause-fault c =
     let nested = c.in_ok-nodes.ensures.nested in
     let place = c.in-Some.place in
-    let off = subst (λ (nodes : List Region). IsOffBy nodes c.items.result.now place) c.as_slice.ensures.value c.in-Some.ensures in
+    let off = subst (λ (nodes : List Region). IsOffBy nodes c.items.result.now place) c.as_slice.ensures.value (MatchOption-at_some _ _ place c.in-Some.is c.in_ok-place.ensures) in
     let here = subst (λ (code : List (ℕ × Instr)). IsOffBy c.in_ok-nodes.nodes.items code place) c.items.ensures off in
     (nested.0, bad_rethrow c.args.body.now c.in_ok-nodes.nodes.items nested.1 place here)
 
@@ -30,17 +31,17 @@ returns-in-Some-2-clause-fault c =
     let body = c.args.body.now in
     let nodes = c.in_ok-nodes.nodes.items in
     let nested = c.in_ok-nodes.ensures.nested in
-    let fine = subst (λ (ns : List Region). All (IsFineBy ns) c.items.result.now) c.as_slice.ensures.value c.in_default.ensures in
+    let fine = subst (λ (ns : List Region). All (IsFineBy ns) c.items.result.now) c.as_slice.ensures.value (MatchOption-at_none _ _ c.in_default.is c.in_ok-place.ensures) in
     let all = subst (All (IsFineBy nodes)) c.items.ensures fine in
-    let answer = subst (λ (ns : List Region). IsDepthAnswer ns c.in_ok-place.field-0) c.as_slice-2.ensures.value c.in_ok-place.ensures in
-    (nested.0, all_fine body nodes nested.1 body.code all, deep_found body nodes nested.1 c.in_ok-place.field-0 c.in-Some-2.place answer c.in-Some-2.is)
+    let answer = subst (λ (ns : List Region). IsDepthAnswer ns c.in_ok-place-2.field-0) c.as_slice-2.ensures.value c.in_ok-place-2.ensures in
+    (nested.0, all_fine body nodes nested.1 body.code all, deep_found body nodes nested.1 c.in_ok-place-2.field-0 c.in-Some-2.place answer c.in-Some-2.is)
 
 pub returns-clause-tree : goal.returns-clause-tree
 returns-clause-tree c =
     let body = c.args.body.now in
     let nodes = c.in_ok-nodes.nodes.items in
     let nested = c.in_ok-nodes.ensures.nested in
-    let fine = subst (λ (ns : List Region). All (IsFineBy ns) c.items.result.now) c.as_slice.ensures.value c.in_default.ensures in
+    let fine = subst (λ (ns : List Region). All (IsFineBy ns) c.items.result.now) c.as_slice.ensures.value (MatchOption-at_none _ _ c.in_default.is c.in_ok-place.ensures) in
     let all = subst (All (IsFineBy nodes)) c.items.ensures fine in
-    let answer = subst (λ (ns : List Region). IsDepthAnswer ns c.in_ok-place.field-0) c.as_slice-2.ensures.value c.in_ok-place.ensures in
-    is_region_tree body nodes nested.1 c.of.result c.in_ok-place.field-0 c.of.ensures nested.0 all answer c.in_default-2.not-Some
+    let answer = subst (λ (ns : List Region). IsDepthAnswer ns c.in_ok-place-2.field-0) c.as_slice-2.ensures.value c.in_ok-place-2.ensures in
+    is_region_tree body nodes nested.1 c.of.result c.in_ok-place-2.field-0 c.of.ensures nested.0 all answer c.in_default-2.not-Some

@@ -1,6 +1,6 @@
 use Rattle.std.proofs.Common.{ℕ, ◌<◌, ◌≤◌, length, get_or}
 use Rattle.cil_regions.specs.declared.region.Region.{Region}
-use Rattle.cil_regions.proofs.tree.reaching.Given as goal
+use Rattle.cil_regions.proofs.tree.reaching_from.Given as goal
 
 abbrev pub invariant-loop-at : goal.invariant-loop-at
 invariant-loop-at l = record {

@@ -1,6 +1,6 @@
 use Rattle.std.proofs.Common.{arith}
 use Rattle.cil_regions.proofs.Chain.{climbs, no_node}
-use Rattle.cil_regions.proofs.tree.reaching.Goals as goal
+use Rattle.cil_regions.proofs.tree.reaching_from.Goals as goal
 
 pub loop-at-preserved : goal.loop-at-preserved
 loop-at-preserved c =
