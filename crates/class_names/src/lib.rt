@@ -1,13 +1,14 @@
-// A library with one function.
+//! The full names of types (ECMA-335 I.10.2, ECMA-334 on fully qualified names), and whether those of the references
+//! are unique.
+//!
+//! ```text
+//! namespace A.B, type T, in it U        full names: A.B.T and A.B.T.U; namespaces: A and A.B
+//! ```
 #![tactic(auto)]
 
-ghost use Rattle.std.specs.Prelude.{◌≡◌};
-ghost use Rattle.class_names.specs.Echo.{echo_of};
+mod full;
+mod space;
+mod unique;
 
-// The `ensures` clause is the contract: what `echo` returns is `echo_of` of its argument, a definition
-// in `specs/Echo.antt`, which a caller's clause can cite too.
-pub fn echo(x: usize) -> usize
-    ensures { result ≡ echo_of x }
-{
-    x
-}
+pub use full::full_name;
+pub use unique::unique_names;
