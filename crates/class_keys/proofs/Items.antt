@@ -1,6 +1,7 @@
 -- Items of lists, by their indices.
-use Rattle.std.proofs.Common.{◌≡◌, ◌⊎◌, ℕ, zero, suc, ◌<◌, Some, None, List, [], ◌∷◌, ◌++◌, length, get_or, refl, sym, ◌∙◌, ap, inl, inr, arith}
+use Rattle.std.proofs.Common.{◌≡◌, ◌⊎◌, ℕ, zero, suc, ◌+◌, ◌<◌, ◌≤◌, Some, None, List, [], ◌∷◌, ◌++◌, length, take, get_or, subst, refl, sym, ◌∙◌, ap, inl, inr, arith}
 use Rattle.std.specs.List.{slice_get}
+use Rattle.std.proofs.lemmas.List.{take_more, take_all}
 use Rattle.std.proofs.lemmas.Option.{slice_get_read}
 
 -- an index has one item
@@ -35,3 +36,14 @@ pushed_item (z ∷ xs) y (suc n) x h = elim (pushed_item xs y n x h) [
 -- an item that was read there stands there
 pub read_item : {X : Type 0} (xs : List X) (n : ℕ) (x : X) → n < length xs → x ≡ get_or xs n x → slice_get xs n ≡ Some x
 read_item xs n x lt is = slice_get_read xs (length xs) n x refl lt is
+
+-- a fact of each item so far, and of the next one
+pub taken_more : {X : Type 0} (P : X → Type 0) (xs : List X) (i : ℕ) (d : X) → i < length xs → ((k : ℕ) (x : X) → slice_get (take i xs) k ≡ Some x → P x) → P (get_or xs i d) → (k : ℕ) (x : X) → slice_get (take (i + 1) xs) k ≡ Some x → P x
+taken_more {X} P xs i d lt all here k x at =
+    elim (pushed_item (take i xs) (get_or xs i d) k x (subst (λ (ys : List X). slice_get ys k ≡ Some x) (take_more xs i d lt) at)) [
+      | inl old ↦ all k x old
+      | inr new ↦ subst P (sym new.1) here
+    ]
+
+pub taken_all : {X : Type 0} (P : X → Type 0) (xs : List X) (i : ℕ) → length xs ≤ i → ((k : ℕ) (x : X) → slice_get (take i xs) k ≡ Some x → P x) → (k : ℕ) (x : X) → slice_get xs k ≡ Some x → P x
+taken_all {X} P xs i le all k x at = all k x (subst (λ (ys : List X). slice_get ys k ≡ Some x) (sym (take_all i xs le)) at)
