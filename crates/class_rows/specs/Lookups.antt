@@ -15,7 +15,7 @@ use Rattle.class_rows.specs.declared.row.Access.TheVariants.{Private, PrivatePro
 use Rattle.class_rows.specs.declared.row.Virt.{Virt}
 use Rattle.class_rows.specs.declared.row.Virt.TheVariants.{Plain, Virtual, Abstract, Override, SealedOverride}
 use Rattle.class_rows.specs.Types.{HasType, IsBase, IsNamed, IsOuter, InBaseChain, IsSuper, IsRound}
-use Rattle.class_rows.specs.Members.{HasMember, IsOf, IsNameless}
+use Rattle.class_rows.specs.Members.{HasMember, IsOf, IsNameless, known_as}
 use Rattle.class_rows.specs.Core.{IsSystem}
 use Rattle.class_rows.specs.Implemented.{AreAlike}
 
@@ -96,10 +96,10 @@ pub data AreSearched (types : List TypeRow) (t : ℕ) : List ℕ → Type 0 wher
   of_interface : (chain named spread : List ℕ) (o : ℕ) → HasType types t (λ row. row.kind ≡ Interface) → IsChain types t chain → AreNamed types t named → AreSpread types named spread → IsSystem types (codes "Object") o → AreSearched types t (firsts (chain ++ (spread ++ (o ∷ []))))
   of_other : (chain : List ℕ) → (HasType types t (λ row. row.kind ≡ Interface) → ⊥) → IsChain types t chain → AreSearched types t chain
 
--- a member of u of this name that isn't left out: it has a name, and overrides none
+-- a member of u that C# knows by this name and that isn't left out: it has a name, and overrides none
 abbrev pub IsFound : List TypeRow → List MemberRow → List (MemberId × MemberId) → List ℕ → ℕ → ℕ → Type 0
 IsFound types members explicit name u m =
-    HasMember members m (λ row. (row.owner ≡ record { 0 = u }) × (row.name ≡ name) × (TakesOver row.virt → ⊥))
+    HasMember members m (λ row. (row.owner ≡ record { 0 = u }) × (known_as row ≡ name) × (TakesOver row.virt → ⊥))
     × (IsNameless types members explicit m → ⊥)
 
 -- for each type in turn its members of this name, by number

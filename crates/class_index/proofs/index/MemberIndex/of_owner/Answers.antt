@@ -1,0 +1,9 @@
+use Rattle.std.proofs.Common.{ℕ, List, sym, subst}
+use Rattle.class_index.specs.Order.{IsIndex}
+use Rattle.class_index.proofs.Order.{owned_stretch}
+use Rattle.class_index.proofs.index.MemberIndex.of_owner.Goals as goal
+
+pub returns : goal.returns
+returns c =
+    let index = subst (λ (order : List ℕ). IsIndex c.args.members.now order) (sym c.items-order.ensures) c.requires in
+    owned_stretch c.args.members.now c.items-order.result.now c.args.owner.0 index c.before_owner-start.result c.upto_owner-end.result c.before_owner-start.ensures c.upto_owner-end.ensures
