@@ -75,7 +75,9 @@ pub enum Space {
         types: Items<Decl>,
     },
     /// A type in no namespace.
-    Type { decl: Decl },
+    Type {
+        decl: Decl,
+    },
 }
 
 /// A whole text (ECMA-334, 14.2), and the name of the assembly that it is the text of.

@@ -95,11 +95,19 @@ pub struct Arg {
 #[cycle(tree)]
 pub enum Form {
     /// `7U`, `'a'`, `"text"`, `true`, `null`
-    Literal { spot: Spot, literal: Literal },
+    Literal {
+        spot: Spot,
+        literal: Literal,
+    },
     /// `x`
-    Name { spot: Spot, text: Text },
+    Name {
+        spot: Spot,
+        text: Text,
+    },
     /// `this`
-    This { spot: Spot },
+    This {
+        spot: Spot,
+    },
     /// `a.b`
     Member {
         spot: Spot,
@@ -114,7 +122,10 @@ pub enum Form {
         args: Items<Arg>,
     },
     /// `base.b`
-    BaseMember { spot: Spot, name: Name },
+    BaseMember {
+        spot: Spot,
+        name: Name,
+    },
     /// `base.b(c)`
     BaseCall {
         spot: Spot,
@@ -122,7 +133,10 @@ pub enum Form {
         args: Items<Arg>,
     },
     /// `global::A.B.f`: all names that stand behind one another
-    Global { spot: Spot, path: Seq<Text> },
+    Global {
+        spot: Spot,
+        path: Seq<Text>,
+    },
     /// `global::A.B.M(c)`
     GlobalCall {
         spot: Spot,
@@ -148,11 +162,20 @@ pub enum Form {
         length: Boxed<Form>,
     },
     /// `checked(a)`
-    Checked { spot: Spot, inner: Boxed<Form> },
+    Checked {
+        spot: Spot,
+        inner: Boxed<Form>,
+    },
     /// `unchecked(a)`
-    Unchecked { spot: Spot, inner: Boxed<Form> },
+    Unchecked {
+        spot: Spot,
+        inner: Boxed<Form>,
+    },
     /// `default(int)`
-    Default { spot: Spot, ty: TypeForm },
+    Default {
+        spot: Spot,
+        ty: TypeForm,
+    },
     /// `(int x, ref int y) => { }`
     Lambda {
         spot: Spot,
@@ -212,7 +235,10 @@ pub struct Block {
 #[cycle(tree)]
 pub enum Action {
     /// `a = b`
-    Assign { place: Form, value: Form },
+    Assign {
+        place: Form,
+        value: Form,
+    },
     /// `a += b`
     Compound {
         op: AssignOp,
@@ -220,7 +246,9 @@ pub enum Action {
         value: Form,
     },
     /// `a.b(c)`
-    Invoke { call: Form },
+    Invoke {
+        call: Form,
+    },
 }
 
 /// A label of a switch section (ECMA-334, 13.8.3)
@@ -262,19 +290,38 @@ pub enum Syntax {
         value: Form,
     },
     /// `a = b;`, `a += b;`, `a.b(c);`
-    Act { spot: Spot, action: Action },
+    Act {
+        spot: Spot,
+        action: Action,
+    },
     /// `L: ;`
-    Label { spot: Spot, label: Text },
+    Label {
+        spot: Spot,
+        label: Text,
+    },
     /// `goto L;`
-    Goto { spot: Spot, label: Text },
+    Goto {
+        spot: Spot,
+        label: Text,
+    },
     /// `break;`
-    Break { spot: Spot },
+    Break {
+        spot: Spot,
+    },
     /// `continue;`
-    Continue { spot: Spot },
+    Continue {
+        spot: Spot,
+    },
     /// `return;`, `return a;`
-    Return { spot: Spot, value: Option<Form> },
+    Return {
+        spot: Spot,
+        value: Option<Form>,
+    },
     /// `throw;`, `throw a;`
-    Throw { spot: Spot, value: Option<Form> },
+    Throw {
+        spot: Spot,
+        value: Option<Form>,
+    },
     /// `if (a) { } else { }`
     If {
         spot: Spot,

@@ -24,3 +24,6 @@ pub use forms::{
 };
 pub use members::{Access, Accessor, Explicit, Initial, Member, Mods};
 pub use types::{KeywordType, Name, Param, Path, Spot, TypeForm, TypeName, Way};
+
+#[cfg(test)]
+mod tests;
