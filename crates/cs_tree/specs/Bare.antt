@@ -36,7 +36,7 @@ abbrev pub bare_type : TypeForm → TypeForm
 bare_type t = record { spot = nowhere; name = t.name; ranks = t.ranks }
 
 abbrev pub bare_param : Param → Param
-bare_param p = record { spot = nowhere; way = p.way; ty = bare_type p.ty; name = bare_name p.name }
+bare_param p = record { way = p.way; ty = bare_type p.ty; name = bare_name p.name }
 
 abbrev pub bare_label : SwitchLabel → SwitchLabel
 bare_label (label.Case spot literal) = label.Case nowhere literal

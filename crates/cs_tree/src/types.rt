@@ -75,7 +75,6 @@ pub enum Way {
 /// A parameter: `int x`, `ref int x`, `out int x`
 #[derive(Debug, Drop)]
 pub struct Param {
-    pub spot: Spot,
     pub way: Way,
     pub ty: TypeForm,
     pub name: Name,

@@ -1,0 +1,5 @@
+-- Which calls cite each file in the proof of their clauses. A file without a call serves the files that are cited.
+pub mod Follow
+pub mod ExactTokens
+pub mod ExactTypes
+pub mod ExactCalls
