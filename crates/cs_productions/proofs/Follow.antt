@@ -65,10 +65,39 @@ conditional_or_follow = conditional_and_follow ++ either_one ∷ []
 abbrev pub whole_follow : List ℕ
 whole_follow = conditional_or_follow ++ question ∷ []
 
--- what the rest of an expression behind a unary one begins with
+-- what stands behind a unary expression, down to some level
+abbrev pub multiplicative_kinds : List ℕ
+multiplicative_kinds = multiplicative_operators
+
+abbrev pub additive_kinds : List ℕ
+additive_kinds = multiplicative_kinds ++ additive_operators
+
+abbrev pub shift_kinds : List ℕ
+shift_kinds = additive_kinds ++ shift_operators
+
+abbrev pub relational_kinds : List ℕ
+relational_kinds = shift_kinds ++ relational_operators
+
+abbrev pub equality_kinds : List ℕ
+equality_kinds = relational_kinds ++ equality_operators
+
+abbrev pub and_kinds : List ℕ
+and_kinds = equality_kinds ++ amp ∷ []
+
+abbrev pub exclusive_or_kinds : List ℕ
+exclusive_or_kinds = and_kinds ++ caret ∷ []
+
+abbrev pub inclusive_or_kinds : List ℕ
+inclusive_or_kinds = exclusive_or_kinds ++ bar ∷ []
+
+abbrev pub conditional_and_kinds : List ℕ
+conditional_and_kinds = inclusive_or_kinds ++ both ∷ []
+
+abbrev pub conditional_or_kinds : List ℕ
+conditional_or_kinds = conditional_and_kinds ++ either_one ∷ []
+
 abbrev pub operator_kinds : List ℕ
-operator_kinds =
-    multiplicative_operators ++ (additive_operators ++ (shift_operators ++ (relational_operators ++ (equality_operators ++ amp ∷ caret ∷ bar ∷ both ∷ either_one ∷ question ∷ []))))
+operator_kinds = conditional_or_kinds ++ question ∷ []
 
 abbrev pub kinds_of : Part → List ℕ
 kinds_of part.Operand = operand_kinds

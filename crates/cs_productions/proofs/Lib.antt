@@ -3,3 +3,6 @@ pub mod Follow
 pub mod ExactTokens
 pub mod ExactTypes
 pub mod ExactCalls
+pub mod ExactPrimaries
+pub mod ExactOperators
+pub mod ExactLevels

@@ -221,10 +221,10 @@ rest_of_form n inner a = do b ← conditional n inner a; gives (form_led b)
 abbrev pub named_led : TypeForm → Grammar Token Lead
 named_led t = do name ← any_name; gives (led.Named t name)
 
-abbrev pub array_led : Inner → TypeForm → Grammar Token Lead
-array_led inner t = do
+abbrev pub array_led : ℕ → TypeForm → Grammar Token Lead
+array_led limit t = do
   _ ← sign unbracket
-  u ← ranks inner.ranks (array_of t)
+  u ← ranks limit (array_of t)
   either kind names (named_led u) (gives (type_led u))
 
 abbrev pub index_led : ℕ → Inner → Measured → Grammar Token Lead
@@ -237,7 +237,7 @@ index_led n inner a = do
 abbrev pub bracket_led : ℕ → Inner → Spot → List (List ℕ) → Grammar Token Lead
 bracket_led n inner s names = do
   _ ← sign bracket
-  guarded kind (nat_lt 0 n) expression_kinds (index_led n inner (leaf (form.Global s names) s)) (array_led inner (global_type s names))
+  guarded kind (nat_lt 0 n) expression_kinds (index_led n inner (leaf (form.Global s names) s)) (array_led inner.ranks (global_type s names))
 
 abbrev pub called_led : ℕ → Inner → Spot → List (List ℕ) → Grammar Token Lead
 called_led n inner s names = do
