@@ -6,3 +6,4 @@ pub mod ExactCalls
 pub mod ExactPrimaries
 pub mod ExactOperators
 pub mod ExactLevels
+pub mod Heights
