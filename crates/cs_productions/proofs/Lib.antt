@@ -7,3 +7,5 @@ pub mod ExactPrimaries
 pub mod ExactOperators
 pub mod ExactLevels
 pub mod Heights
+pub mod Deepening
+pub mod DeeperTypes
