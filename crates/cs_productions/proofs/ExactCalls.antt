@@ -20,16 +20,16 @@ use Rattle.cs_productions.proofs.Follow.{arg_kinds, whole_follow, postfix_follow
 use Rattle.cs_productions.proofs.ExactTokens.{exact_sign, exact_any_name}
 use Rattle.cs_productions.proofs.ExactTypes.{exact_way}
 
-exact_one_arg : {inner : Inner} (before : Args) → AreExact inner → Exact kind (one_arg inner before) arg_kinds whole_follow false
+pub exact_one_arg : {inner : Inner} (before : Args) → AreExact inner → Exact kind (one_arg inner before) arg_kinds whole_follow false
 exact_one_arg before x = wider refl refl (then exact_way refl (λ w. then (x.forms Whole) refl (λ a. exact_gives _)))
 
-exact_one_more_arg : {inner : Inner} (before : Args) → AreExact inner → Exact kind (one_more_arg inner before) (comma ∷ []) whole_follow false
+pub exact_one_more_arg : {inner : Inner} (before : Args) → AreExact inner → Exact kind (one_more_arg inner before) (comma ∷ []) whole_follow false
 exact_one_more_arg before x = wider refl refl (then (exact_sign comma refl) refl (λ _. exact_one_arg before x))
 
-exact_no_more_args : Exact kind no_more_args (unparen ∷ []) [] false
+pub exact_no_more_args : Exact kind no_more_args (unparen ∷ []) [] false
 exact_no_more_args = wider refl refl (then (exact_sign unparen refl) refl (λ _. exact_gives _))
 
-exact_some_args : {inner : Inner} → AreExact inner → Exact kind (some_args inner) arg_kinds [] false
+pub exact_some_args : {inner : Inner} → AreExact inner → Exact kind (some_args inner) arg_kinds [] false
 exact_some_args x =
     wider refl refl
     (then (exact_one_arg no_args x) refl
@@ -50,7 +50,7 @@ exact_one_index a x =
     wider refl refl
     (then (exact_sign bracket refl) refl (λ _. then (x.forms Whole) refl (λ i. then (exact_sign unbracket refl) refl (λ _. exact_gives _))))
 
-exact_one_postfix : {inner : Inner} (n : ℕ) (a : Measured) → AreExact inner → Exact kind (one_postfix n inner a) (dot ∷ bracket ∷ []) (paren ∷ []) false
+pub exact_one_postfix : {inner : Inner} (n : ℕ) (a : Measured) → AreExact inner → Exact kind (one_postfix n inner a) (dot ∷ bracket ∷ []) (paren ∷ []) false
 exact_one_postfix n a x = wider refl refl (or (dot ∷ []) refl refl (exact_one_member n a x) (exact_one_index a x))
 
 pub exact_postfixes : {inner : Inner} (n : ℕ) (a : Measured) → AreExact inner → Exact kind (postfixes n inner a) (dot ∷ bracket ∷ []) postfix_follow true

@@ -28,15 +28,15 @@ exact_of_base n x =
 pub exact_called_path : {inner : Inner} (n : ℕ) (s : Spot) (names : List (List ℕ)) → AreExact inner → Exact kind (called_path n inner s names) (paren ∷ []) postfix_follow false
 exact_called_path n s names x = wider refl refl (then (exact_arguments x) refl (λ args. exact_postfixes n _ x))
 
-exact_indexed : {inner : Inner} (n : ℕ) (a : Measured) → AreExact inner → Exact kind (indexed n inner a) (bracket ∷ []) postfix_follow false
+pub exact_indexed : {inner : Inner} (n : ℕ) (a : Measured) → AreExact inner → Exact kind (indexed n inner a) (bracket ∷ []) postfix_follow false
 exact_indexed n a x = wider refl refl (then (exact_one_index a x) refl (λ b. exact_postfixes n b x))
 
-exact_behind_path : {inner : Inner} (n : ℕ) (s : Spot) (names : List (List ℕ)) → AreExact inner → Exact kind (behind_path n inner s names) (paren ∷ bracket ∷ []) postfix_follow true
+pub exact_behind_path : {inner : Inner} (n : ℕ) (s : Spot) (names : List (List ℕ)) → AreExact inner → Exact kind (behind_path n inner s names) (paren ∷ bracket ∷ []) postfix_follow true
 exact_behind_path n s names x =
     wider refl refl
     (guard (paren ∷ []) (nat_lt 0 n) refl refl (exact_called_path n s names x) (guard (bracket ∷ []) (nat_lt 0 n) refl refl (exact_indexed n _ x) (exact_gives _)))
 
-exact_global_path : {inner : Inner} (n : ℕ) (s : Spot) → AreExact inner → Exact kind (global_path n inner s) (colons ∷ []) postfix_follow false
+pub exact_global_path : {inner : Inner} (n : ℕ) (s : Spot) → AreExact inner → Exact kind (global_path n inner s) (colons ∷ []) postfix_follow false
 exact_global_path n s x =
     wider refl refl (then (exact_sign colons refl) refl (λ _. then exact_path refl (λ names. exact_behind_path n s names x)))
 
@@ -46,16 +46,16 @@ exact_of_global n x =
     (then (exact_one (global ∷ []) global_leaf global_sample refl) refl
     (λ (g : Measured). or (colons ∷ []) refl refl (exact_global_path n g.spot x) (exact_postfixes n g x)))
 
-exact_of_new_object : {inner : Inner} (n : ℕ) (s : Spot) (t : TypeForm) → AreExact inner → Exact kind (of_new_object n inner s t) (paren ∷ []) postfix_follow false
+pub exact_of_new_object : {inner : Inner} (n : ℕ) (s : Spot) (t : TypeForm) → AreExact inner → Exact kind (of_new_object n inner s t) (paren ∷ []) postfix_follow false
 exact_of_new_object n s t x = wider refl refl (then (exact_arguments x) refl (λ args. exact_postfixes n _ x))
 
-exact_with_member : {inner : Inner} (n : ℕ) (a : Measured) → AreExact inner → Exact kind (with_member n inner a) (dot ∷ []) postfix_follow false
+pub exact_with_member : {inner : Inner} (n : ℕ) (a : Measured) → AreExact inner → Exact kind (with_member n inner a) (dot ∷ []) postfix_follow false
 exact_with_member n a x = wider refl refl (then (exact_one_member n a x) refl (λ b. exact_postfixes n b x))
 
-exact_behind_array : {inner : Inner} (n : ℕ) (a : Measured) → AreExact inner → Exact kind (behind_array n inner a) (dot ∷ []) postfix_follow true
+pub exact_behind_array : {inner : Inner} (n : ℕ) (a : Measured) → AreExact inner → Exact kind (behind_array n inner a) (dot ∷ []) postfix_follow true
 exact_behind_array n a x = wider refl refl (guard (dot ∷ []) (nat_lt a.height n) refl refl (exact_with_member n a x) (exact_gives a))
 
-exact_of_new_array : {inner : Inner} (n : ℕ) (s : Spot) (t : TypeForm) → AreExact inner → Exact kind (of_new_array n inner s t) (bracket ∷ []) postfix_follow false
+pub exact_of_new_array : {inner : Inner} (n : ℕ) (s : Spot) (t : TypeForm) → AreExact inner → Exact kind (of_new_array n inner s t) (bracket ∷ []) postfix_follow false
 exact_of_new_array {inner = inner} n s t x =
     wider refl refl
     (then (exact_sign bracket refl) refl

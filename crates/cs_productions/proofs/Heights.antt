@@ -61,12 +61,12 @@ pub record AreBelow (n : ℕ) (inner : Inner) : Type 0 where
 
 -- arguments and postfixes
 
-below_one_arg : {n : ℕ} {inner : Inner} (before : Args) → AreBelow n inner → 0 < n → ArgsBelow n before → Yields (ArgsBelow n) (one_arg inner before)
+pub below_one_arg : {n : ℕ} {inner : Inner} (before : Args) → AreBelow n inner → 0 < n → ArgsBelow n before → Yields (ArgsBelow n) (one_arg inner before)
 below_one_arg {n = n} before y some b =
     yields_then {Q = λ _. Unit {0}} (yields_any way)
     (λ w _. yields_then (y.forms some part.Whole) (λ a p. yields_gives {P = ArgsBelow n} (with_arg before w a) (omega arith)))
 
-below_arguments : {n : ℕ} {inner : Inner} → AreBelow n inner → 0 < n → Yields (ArgsBelow n) (arguments inner)
+pub below_arguments : {n : ℕ} {inner : Inner} → AreBelow n inner → 0 < n → Yields (ArgsBelow n) (arguments inner)
 below_arguments {n = n} {inner = inner} y some =
     yields_then {Q = λ _. Unit {0}} (yields_any (sign paren))
     (λ _ _. yields_or kind (unparen ∷ []) (yields_then {Q = λ _. Unit {0}} (yields_any (sign unparen)) (λ _ _. yields_gives {P = ArgsBelow n} no_args some))
@@ -76,24 +76,24 @@ below_arguments {n = n} {inner = inner} y some =
     (λ before q _. yields_then {Q = λ _. Unit {0}} (yields_any (sign comma)) (λ _ _. below_one_arg before y some q)))
     (λ all q. yields_then {Q = λ _. Unit {0}} (yields_any (sign unparen)) (λ _ _. yields_gives {P = ArgsBelow n} all q)))))
 
-within_called : {n : ℕ} {inner : Inner} (h : ℕ) (call : Args → Measured) (else : Measured) → AreBelow n inner → (h < n → (args : Args) → ArgsBelow n args → AtMost n (call args)) → AtMost n else → Yields (AtMost n) (called n inner h call else)
+pub within_called : {n : ℕ} {inner : Inner} (h : ℕ) (call : Args → Measured) (else : Measured) → AreBelow n inner → (h < n → (args : Args) → ArgsBelow n args → AtMost n (call args)) → AtMost n else → Yields (AtMost n) (called n inner h call else)
 within_called {n = n} h call else y c e =
     yields_where (paren ∷ []) (nat_lt h n)
     (λ r. let room = ltb-true h n r in yields_then (below_arguments y (omega arith)) (λ args p. yields_gives {P = AtMost n} (call args) (c room args p)))
     (yields_gives {P = AtMost n} else e)
 
-within_one_member : {n : ℕ} {inner : Inner} (a : Measured) → AreBelow n inner → a.height < n → Yields (AtMost n) (one_member n inner a)
+pub within_one_member : {n : ℕ} {inner : Inner} (a : Measured) → AreBelow n inner → a.height < n → Yields (AtMost n) (one_member n inner a)
 within_one_member a y room =
     yields_then {Q = λ _. Unit {0}} (yields_any (sign dot))
     (λ _ _. yields_then {Q = λ _. Unit {0}} (yields_any any_name) (λ name _. within_called (a.height + 1) (call_of a name) (member_of a name) y (λ more args p. omega arith) (omega arith)))
 
-within_one_index : {n : ℕ} {inner : Inner} (a : Measured) → AreBelow n inner → a.height < n → Yields (AtMost n) (one_index inner a)
+pub within_one_index : {n : ℕ} {inner : Inner} (a : Measured) → AreBelow n inner → a.height < n → Yields (AtMost n) (one_index inner a)
 within_one_index {n = n} a y room =
     yields_then {Q = λ _. Unit {0}} (yields_any (sign bracket))
     (λ _ _. yields_then (y.forms (omega arith) part.Whole)
     (λ i p. yields_then {Q = λ _. Unit {0}} (yields_any (sign unbracket)) (λ _ _. yields_gives {P = AtMost n} (index_of a i) (omega arith))))
 
-within_postfixes : {n : ℕ} {inner : Inner} (a : Measured) → AreBelow n inner → AtMost n a → Yields (AtMost n) (postfixes n inner a)
+pub within_postfixes : {n : ℕ} {inner : Inner} (a : Measured) → AreBelow n inner → AtMost n a → Yields (AtMost n) (postfixes n inner a)
 within_postfixes {n = n} {inner = inner} a y p =
     yields_turns {f = one_postfix n inner} kind (dot ∷ bracket ∷ []) (λ (b : Measured). nat_lt b.height n) a p
     (λ b q r. let room = ltb-true b.height n r in yields_or kind (dot ∷ []) (within_one_member b y room) (within_one_index b y room))
@@ -103,122 +103,122 @@ within_postfixes {n = n} {inner = inner} a y p =
 abbrev any_sign : (k : ℕ) → Yields (λ _. Unit {0}) (sign k)
 any_sign k = yields_any (sign k)
 
-within_of_base : {n : ℕ} {inner : Inner} → AreBelow n inner → Yields (AtMost n) (of_base n inner)
+pub within_of_base : {n : ℕ} {inner : Inner} → AreBelow n inner → Yields (AtMost n) (of_base n inner)
 within_of_base y =
     yields_then {Q = λ _. Unit {0}} (yields_any (place kw_base))
     (λ s _. yields_then {Q = λ _. Unit {0}} (any_sign dot)
     (λ _ _. yields_then {Q = λ _. Unit {0}} (yields_any any_name)
     (λ name _. yields_then (within_called 0 (base_call s name) _ y (λ room args p. omega arith) (omega arith)) (λ a p. within_postfixes a y p))))
 
-within_called_path : {n : ℕ} {inner : Inner} (s : Spot) (path_names : List (List ℕ)) → AreBelow n inner → 0 < n → Yields (AtMost n) (called_path n inner s path_names)
+pub within_called_path : {n : ℕ} {inner : Inner} (s : Spot) (path_names : List (List ℕ)) → AreBelow n inner → 0 < n → Yields (AtMost n) (called_path n inner s path_names)
 within_called_path s path_names y some =
     yields_then (below_arguments y some) (λ args p. within_postfixes (global_call s path_names args) y (omega arith))
 
-within_indexed : {n : ℕ} {inner : Inner} (a : Measured) → AreBelow n inner → a.height < n → Yields (AtMost n) (indexed n inner a)
+pub within_indexed : {n : ℕ} {inner : Inner} (a : Measured) → AreBelow n inner → a.height < n → Yields (AtMost n) (indexed n inner a)
 within_indexed a y room = yields_then (within_one_index a y room) (λ b p. within_postfixes b y p)
 
-within_behind_path : {n : ℕ} {inner : Inner} (s : Spot) (path_names : List (List ℕ)) → AreBelow n inner → Yields (AtMost n) (behind_path n inner s path_names)
+pub within_behind_path : {n : ℕ} {inner : Inner} (s : Spot) (path_names : List (List ℕ)) → AreBelow n inner → Yields (AtMost n) (behind_path n inner s path_names)
 within_behind_path {n = n} s path_names y =
     yields_where (paren ∷ []) (nat_lt 0 n) (λ r. within_called_path s path_names y (ltb-true 0 n r))
     (yields_where (bracket ∷ []) (nat_lt 0 n) (λ r. within_indexed _ y (ltb-true 0 n r)) (yields_gives {P = AtMost n} _ (omega arith)))
 
-within_of_global : {n : ℕ} {inner : Inner} → AreBelow n inner → Yields (AtMost n) (of_global n inner)
+pub within_of_global : {n : ℕ} {inner : Inner} → AreBelow n inner → Yields (AtMost n) (of_global n inner)
 within_of_global {n = n} {inner = inner} y =
     yields_then (yields_one {P = AtMost n} (global ∷ []) global_leaf (λ t. omega arith))
     (λ g p. yields_or {g = global_path n inner g.spot} kind (colons ∷ [])
     (yields_then {Q = λ _. Unit {0}} (any_sign colons) (λ _ _. yields_then {Q = λ _. Unit {0}} (yields_any path) (λ path_names _. within_behind_path g.spot path_names y)))
     (within_postfixes g y p))
 
-within_of_new_object : {n : ℕ} {inner : Inner} (s : Spot) (t : TypeForm) → AreBelow n inner → 0 < n → Yields (AtMost n) (of_new_object n inner s t)
+pub within_of_new_object : {n : ℕ} {inner : Inner} (s : Spot) (t : TypeForm) → AreBelow n inner → 0 < n → Yields (AtMost n) (of_new_object n inner s t)
 within_of_new_object s t y some = yields_then (below_arguments y some) (λ args p. within_postfixes (new_object s t args) y (omega arith))
 
-within_behind_array : {n : ℕ} {inner : Inner} (a : Measured) → AreBelow n inner → AtMost n a → Yields (AtMost n) (behind_array n inner a)
+pub within_behind_array : {n : ℕ} {inner : Inner} (a : Measured) → AreBelow n inner → AtMost n a → Yields (AtMost n) (behind_array n inner a)
 within_behind_array {n = n} a y p =
     yields_where (dot ∷ []) (nat_lt a.height n)
     (λ r. yields_then (within_one_member a y (ltb-true a.height n r)) (λ b q. within_postfixes b y q)) (yields_gives {P = AtMost n} a p)
 
-within_of_new_array : {n : ℕ} {inner : Inner} (s : Spot) (t : TypeForm) → AreBelow n inner → 0 < n → Yields (AtMost n) (of_new_array n inner s t)
+pub within_of_new_array : {n : ℕ} {inner : Inner} (s : Spot) (t : TypeForm) → AreBelow n inner → 0 < n → Yields (AtMost n) (of_new_array n inner s t)
 within_of_new_array {inner = inner} s t y some =
     yields_then {Q = λ _. Unit {0}} (any_sign bracket)
     (λ _ _. yields_then (y.forms some part.Whole)
     (λ length p. yields_then {Q = λ _. Unit {0}} (any_sign unbracket)
     (λ _ _. yields_then {Q = λ _. Unit {0}} (yields_any (ranks (inner.ranks - 1) t)) (λ element _. within_behind_array (new_array s element length) y (omega arith)))))
 
-within_of_new : {n : ℕ} {inner : Inner} → AreBelow n inner → 0 < n → Yields (AtMost n) (of_new n inner)
+pub within_of_new : {n : ℕ} {inner : Inner} → AreBelow n inner → 0 < n → Yields (AtMost n) (of_new n inner)
 within_of_new y some =
     yields_then {Q = λ _. Unit {0}} (yields_any (place kw_new))
     (λ s _. yields_then {Q = λ _. Unit {0}} (yields_any named_type)
     (λ t _. yields_or kind (paren ∷ []) (within_of_new_object s t y some) (within_of_new_array s t y some)))
 
-within_of_default : {n : ℕ} {inner : Inner} → AreBelow n inner → 0 < n → Yields (AtMost n) (of_default n inner)
+pub within_of_default : {n : ℕ} {inner : Inner} → AreBelow n inner → 0 < n → Yields (AtMost n) (of_default n inner)
 within_of_default {inner = inner} y some =
     yields_then {Q = λ _. Unit {0}} (yields_any (place kw_default))
     (λ s _. yields_then {Q = λ _. Unit {0}} (any_sign paren)
     (λ _ _. yields_then {Q = λ _. Unit {0}} (yields_any (ty inner.ranks))
     (λ t _. yields_then {Q = λ _. Unit {0}} (any_sign unparen) (λ _ _. within_postfixes (default_of s t) y (omega arith)))))
 
-within_of_checked : {n : ℕ} {inner : Inner} → AreBelow n inner → 0 < n → Yields (AtMost n) (of_checked n inner)
+pub within_of_checked : {n : ℕ} {inner : Inner} → AreBelow n inner → 0 < n → Yields (AtMost n) (of_checked n inner)
 within_of_checked y some =
     yields_then {Q = λ _. Unit {0}} (yields_any (one kind (kw_checked ∷ kw_unchecked ∷ []) (λ t. t)))
     (λ t _. yields_then {Q = λ _. Unit {0}} (any_sign paren)
     (λ _ _. yields_then (y.forms some part.Whole)
     (λ a p. yields_then {Q = λ _. Unit {0}} (any_sign unparen) (λ _ _. within_postfixes (checked_of t a) y (omega arith)))))
 
-within_of_simple : {n : ℕ} {inner : Inner} → AreBelow n inner → Yields (AtMost n) (of_simple n inner)
+pub within_of_simple : {n : ℕ} {inner : Inner} → AreBelow n inner → Yields (AtMost n) (of_simple n inner)
 within_of_simple {n = n} y =
     yields_then (yields_one {P = AtMost n} simple_kinds simple_of (λ t. omega arith)) (λ a p. within_postfixes a y p)
 
 -- lambdas, casts and parentheses
 
-within_lambda : {n : ℕ} {inner : Inner} (s : Spot) (params : List Param) → AreBelow n inner → 0 < n → Yields (AtMost n) (lambda n inner s params)
+pub within_lambda : {n : ℕ} {inner : Inner} (s : Spot) (params : List Param) → AreBelow n inner → 0 < n → Yields (AtMost n) (lambda n inner s params)
 within_lambda {inner = inner} s params y some =
     yields_then {Q = λ _. Unit {0}} (any_sign unparen)
     (λ _ _. yields_then {Q = λ _. Unit {0}} (any_sign arrow)
     (λ _ _. yields_then {Q = λ _. Unit {0}} (yields_any inner.block) (λ block _. within_postfixes (lambda_of s params block) y (omega arith))))
 
-within_lambda_behind : {n : ℕ} {inner : Inner} (s : Spot) (first : Param) → AreBelow n inner → 0 < n → Yields (AtMost n) (lambda_behind n inner s first)
+pub within_lambda_behind : {n : ℕ} {inner : Inner} (s : Spot) (first : Param) → AreBelow n inner → 0 < n → Yields (AtMost n) (lambda_behind n inner s first)
 within_lambda_behind {inner = inner} s first y some =
     yields_then {Q = λ _. Unit {0}} (yields_any (more_params inner.ranks (first ∷ []))) (λ params _. within_lambda s params y some)
 
-within_lambda_from_way : {n : ℕ} {inner : Inner} (s : Spot) → AreBelow n inner → 0 < n → Yields (AtMost n) (lambda_from_way n inner s)
+pub within_lambda_from_way : {n : ℕ} {inner : Inner} (s : Spot) → AreBelow n inner → 0 < n → Yields (AtMost n) (lambda_from_way n inner s)
 within_lambda_from_way {inner = inner} s y some =
     yields_then {Q = λ _. Unit {0}} (yields_any (passed_param inner.ranks)) (λ first _. within_lambda_behind s first y some)
 
-within_lambda_from_type : {n : ℕ} {inner : Inner} (s : Spot) (t : TypeForm) → AreBelow n inner → 0 < n → Yields (AtMost n) (lambda_from_type n inner s t)
+pub within_lambda_from_type : {n : ℕ} {inner : Inner} (s : Spot) (t : TypeForm) → AreBelow n inner → 0 < n → Yields (AtMost n) (lambda_from_type n inner s t)
 within_lambda_from_type s t y some =
     yields_then {Q = λ _. Unit {0}} (yields_any any_name) (λ name _. within_lambda_behind s _ y some)
 
-within_casting : {n : ℕ} {inner : Inner} (s : Spot) (t : TypeForm) → AreBelow n inner → 0 < n → Yields (AtMost n) (casting inner s t)
+pub within_casting : {n : ℕ} {inner : Inner} (s : Spot) (t : TypeForm) → AreBelow n inner → 0 < n → Yields (AtMost n) (casting inner s t)
 within_casting {n = n} s t y some = yields_then (y.forms some part.Operand) (λ a p. yields_gives {P = AtMost n} (cast_of s t a) (omega arith))
 
-within_cast_to : {n : ℕ} {inner : Inner} (s : Spot) (t : TypeForm) → AreBelow n inner → 0 < n → Yields (AtMost n) (cast_to inner s t)
+pub within_cast_to : {n : ℕ} {inner : Inner} (s : Spot) (t : TypeForm) → AreBelow n inner → 0 < n → Yields (AtMost n) (cast_to inner s t)
 within_cast_to s t y some = yields_then {Q = λ _. Unit {0}} (any_sign unparen) (λ _ _. within_casting s t y some)
 
-within_closed_form : {n : ℕ} {inner : Inner} (s : Spot) (a : Measured) (p : Option TypeForm) → AreBelow n inner → a.height < n → Yields (AtMost n) (closed_form n inner s a p)
+pub within_closed_form : {n : ℕ} {inner : Inner} (s : Spot) (a : Measured) (p : Option TypeForm) → AreBelow n inner → a.height < n → Yields (AtMost n) (closed_form n inner s a p)
 within_closed_form s a None y room = within_postfixes (in_parentheses s a) y (omega arith)
 within_closed_form s a (Some t) y room = yields_or kind operand_kinds (within_casting s t y (omega arith)) (within_postfixes (in_parentheses s a) y (omega arith))
 
-within_closed : {n : ℕ} {inner : Inner} (s : Spot) (l : Lead) → AreBelow n inner → 0 < n → LeadWithin (Below n) l → Yields (AtMost n) (closed n inner s l)
+pub within_closed : {n : ℕ} {inner : Inner} (s : Spot) (l : Lead) → AreBelow n inner → 0 < n → LeadWithin (Below n) l → Yields (AtMost n) (closed n inner s l)
 within_closed s (led.Form a) y some room = yields_then {Q = λ _. Unit {0}} (any_sign unparen) (λ _ _. within_closed_form s a (path_of a.form) y room)
 within_closed s (led.Type t) y some room = within_cast_to s t y some
 within_closed s (led.Named t name) y some room = within_lambda_behind s _ y some
 
-within_led_in : {n : ℕ} {inner : Inner} (s : Spot) → AreBelow n inner → 0 < n → Yields (AtMost n) (led_in n inner s)
+pub within_led_in : {n : ℕ} {inner : Inner} (s : Spot) → AreBelow n inner → 0 < n → Yields (AtMost n) (led_in n inner s)
 within_led_in s y some = yields_then (y.lead some) (λ l p. within_closed s l y some p)
 
-within_behind_type : {n : ℕ} {inner : Inner} (s : Spot) (t : TypeForm) → AreBelow n inner → 0 < n → Yields (AtMost n) (behind_type n inner s t)
+pub within_behind_type : {n : ℕ} {inner : Inner} (s : Spot) (t : TypeForm) → AreBelow n inner → 0 < n → Yields (AtMost n) (behind_type n inner s t)
 within_behind_type s t y some = yields_or kind names (within_lambda_from_type s t y some) (within_cast_to s t y some)
 
-within_keyword_in : {n : ℕ} {inner : Inner} (s : Spot) → AreBelow n inner → 0 < n → Yields (AtMost n) (keyword_in n inner s)
+pub within_keyword_in : {n : ℕ} {inner : Inner} (s : Spot) → AreBelow n inner → 0 < n → Yields (AtMost n) (keyword_in n inner s)
 within_keyword_in {inner = inner} s y some =
     yields_then {Q = λ _. Unit {0}} (yields_any (type_of_keyword inner.ranks)) (λ t _. within_behind_type s t y some)
 
-within_plain_in : {n : ℕ} {inner : Inner} (s : Spot) → AreBelow n inner → 0 < n → Yields (AtMost n) (plain_in n inner s)
+pub within_plain_in : {n : ℕ} {inner : Inner} (s : Spot) → AreBelow n inner → 0 < n → Yields (AtMost n) (plain_in n inner s)
 within_plain_in s y some =
     yields_then (y.forms some part.Plain)
     (λ a p. yields_then {Q = λ _. Unit {0}} (any_sign unparen) (λ _ _. within_postfixes (in_parentheses s a) y (omega arith)))
 
-within_behind_paren : {n : ℕ} {inner : Inner} (s : Spot) → AreBelow n inner → 0 < n → Yields (AtMost n) (behind_paren n inner s)
+pub within_behind_paren : {n : ℕ} {inner : Inner} (s : Spot) → AreBelow n inner → 0 < n → Yields (AtMost n) (behind_paren n inner s)
 within_behind_paren s y some =
     yields_or kind (unparen ∷ []) (within_lambda s [] y some)
     (yields_or kind (kw_ref ∷ kw_out ∷ []) (within_lambda_from_way s y some)
@@ -226,19 +226,19 @@ within_behind_paren s y some =
 
 -- operands and unary operators
 
-within_of_counted : {n : ℕ} {inner : Inner} → AreBelow n inner → 0 < n → Yields (AtMost n) (of_counted n inner)
+pub within_of_counted : {n : ℕ} {inner : Inner} → AreBelow n inner → 0 < n → Yields (AtMost n) (of_counted n inner)
 within_of_counted y some =
     yields_or kind (paren ∷ []) (yields_then {Q = λ _. Unit {0}} (yields_any (place paren)) (λ s _. within_behind_paren s y some))
     (yields_or kind (kw_new ∷ []) (within_of_new y some) (yields_or kind (kw_default ∷ []) (within_of_default y some) (within_of_checked y some)))
 
-within_plain_operand : {n : ℕ} {inner : Inner} → AreBelow n inner → Yields (AtMost n) (plain_operand n inner)
+pub within_plain_operand : {n : ℕ} {inner : Inner} → AreBelow n inner → Yields (AtMost n) (plain_operand n inner)
 within_plain_operand {n = n} y =
     yields_where counted_kinds (nat_lt 0 n) (λ r. within_of_counted y (ltb-true 0 n r)) (yields_or kind (kw_base ∷ []) (within_of_base y) (within_of_simple y))
 
-within_operand : {n : ℕ} {inner : Inner} → AreBelow n inner → Yields (AtMost n) (operand n inner)
+pub within_operand : {n : ℕ} {inner : Inner} → AreBelow n inner → Yields (AtMost n) (operand n inner)
 within_operand y = yields_or kind (global ∷ []) (within_of_global y) (within_plain_operand y)
 
-within_signed : {n : ℕ} {inner : Inner} → AreBelow n inner → 0 < n → Yields (AtMost n) (signed inner)
+pub within_signed : {n : ℕ} {inner : Inner} → AreBelow n inner → 0 < n → Yields (AtMost n) (signed inner)
 within_signed {n = n} y some =
     yields_then {Q = λ _. Unit {0}} (yields_any (one kind unary_operators (λ t. t)))
     (λ t _. yields_then (y.forms some part.Unary) (λ a p. yields_gives {P = AtMost n} (signed_of t a) (omega arith)))
@@ -246,12 +246,12 @@ within_signed {n = n} y some =
 pub within_unary : {n : ℕ} {inner : Inner} → AreBelow n inner → Yields (AtMost n) (unary n inner)
 within_unary {n = n} y = yields_where unary_operators (nat_lt 0 n) (λ r. within_signed y (ltb-true 0 n r)) (within_operand y)
 
-within_plain_unary : {n : ℕ} {inner : Inner} → AreBelow n inner → Yields (AtMost n) (plain_unary n inner)
+pub within_plain_unary : {n : ℕ} {inner : Inner} → AreBelow n inner → Yields (AtMost n) (plain_unary n inner)
 within_plain_unary {n = n} y = yields_where unary_operators (nat_lt 0 n) (λ r. within_signed y (ltb-true 0 n r)) (within_plain_operand y)
 
 -- two-place operators
 
-within_one_binary : {n : ℕ} {inner : Inner} (operators : List ℕ) (right : Part) (a : Measured) → AreBelow n inner → a.height < n → Yields (AtMost n) (one_binary inner operators right a)
+pub within_one_binary : {n : ℕ} {inner : Inner} (operators : List ℕ) (right : Part) (a : Measured) → AreBelow n inner → a.height < n → Yields (AtMost n) (one_binary inner operators right a)
 within_one_binary {n = n} operators right a y room =
     yields_then {Q = λ _. Unit {0}} (yields_any (one kind operators kind))
     (λ k _. yields_then (y.forms (omega arith) right) (λ b p. yields_gives {P = AtMost n} (binary_form a k b) (omega arith)))
@@ -261,7 +261,7 @@ within_binaries {n = n} {inner = inner} operators right a y p =
     yields_turns {f = one_binary inner operators right} kind operators (λ (b : Measured). nat_lt b.height n) a p
     (λ b q r. within_one_binary operators right b y (ltb-true b.height n r))
 
-within_one_relation : {n : ℕ} {inner : Inner} (a : Measured) → AreBelow n inner → a.height < n → Yields (AtMost n) (one_relation inner a)
+pub within_one_relation : {n : ℕ} {inner : Inner} (a : Measured) → AreBelow n inner → a.height < n → Yields (AtMost n) (one_relation inner a)
 within_one_relation {n = n} {inner = inner} a y room =
     yields_or {g = one_test inner a} kind type_tests
     (yields_then {Q = λ _. Unit {0}} (yields_any (one kind type_tests kind))
@@ -302,7 +302,7 @@ within_conditional_and a y p = yields_then (within_inclusive_or a y p) (λ b q. 
 pub within_conditional_or : {n : ℕ} {inner : Inner} (a : Measured) → AreBelow n inner → AtMost n a → Yields (AtMost n) (conditional_or n inner a)
 within_conditional_or a y p = yields_then (within_conditional_and a y p) (λ b q. within_binaries (either_one ∷ []) part.ConditionalAnd b y q)
 
-within_choosing : {n : ℕ} {inner : Inner} (a : Measured) → AreBelow n inner → a.height < n → Yields (AtMost n) (choosing inner a)
+pub within_choosing : {n : ℕ} {inner : Inner} (a : Measured) → AreBelow n inner → a.height < n → Yields (AtMost n) (choosing inner a)
 within_choosing {n = n} a y room =
     yields_then {Q = λ _. Unit {0}} (any_sign question)
     (λ _ _. yields_then (y.forms (omega arith) part.Whole)
@@ -316,37 +316,37 @@ within_conditional {n = n} a y p =
 
 -- what begins with `global` inside parentheses
 
-within_rest_of_form : {n : ℕ} {inner : Inner} (a : Measured) → AreBelow n inner → AtMost n a → Yields (LeadWithin (AtMost n)) (rest_of_form n inner a)
+pub within_rest_of_form : {n : ℕ} {inner : Inner} (a : Measured) → AreBelow n inner → AtMost n a → Yields (LeadWithin (AtMost n)) (rest_of_form n inner a)
 within_rest_of_form {n = n} a y p = yields_then (within_conditional a y p) (λ b q. yields_gives {P = LeadWithin (AtMost n)} (form_led b) q)
 
-within_named_led : {n : ℕ} (t : TypeForm) → Yields (LeadWithin (AtMost n)) (named_led t)
+pub within_named_led : {n : ℕ} (t : TypeForm) → Yields (LeadWithin (AtMost n)) (named_led t)
 within_named_led {n = n} t =
     yields_then {Q = λ _. Unit {0}} (yields_any any_name) (λ name _. yields_gives {P = LeadWithin (AtMost n)} (led.Named t name) tt)
 
-within_array_led : {n : ℕ} (limit : ℕ) (t : TypeForm) → Yields (LeadWithin (AtMost n)) (array_led limit t)
+pub within_array_led : {n : ℕ} (limit : ℕ) (t : TypeForm) → Yields (LeadWithin (AtMost n)) (array_led limit t)
 within_array_led {n = n} limit t =
     yields_then {Q = λ _. Unit {0}} (any_sign unbracket)
     (λ _ _. yields_then {Q = λ _. Unit {0}} (yields_any (ranks limit (array_of t)))
     (λ u _. yields_or kind names (within_named_led u) (yields_gives {P = LeadWithin (AtMost n)} (type_led u) tt)))
 
-within_index_led : {n : ℕ} {inner : Inner} (a : Measured) → AreBelow n inner → a.height < n → Yields (LeadWithin (AtMost n)) (index_led n inner a)
+pub within_index_led : {n : ℕ} {inner : Inner} (a : Measured) → AreBelow n inner → a.height < n → Yields (LeadWithin (AtMost n)) (index_led n inner a)
 within_index_led a y room =
     yields_then (y.forms (omega arith) part.Whole)
     (λ i p. yields_then {Q = λ _. Unit {0}} (any_sign unbracket)
     (λ _ _. yields_then (within_postfixes (index_of a i) y (omega arith)) (λ b q. within_rest_of_form b y q)))
 
-within_bracket_led : {n : ℕ} {inner : Inner} (s : Spot) (path_names : List (List ℕ)) → AreBelow n inner → Yields (LeadWithin (AtMost n)) (bracket_led n inner s path_names)
+pub within_bracket_led : {n : ℕ} {inner : Inner} (s : Spot) (path_names : List (List ℕ)) → AreBelow n inner → Yields (LeadWithin (AtMost n)) (bracket_led n inner s path_names)
 within_bracket_led {n = n} {inner = inner} s path_names y =
     yields_then {Q = λ _. Unit {0}} (any_sign bracket)
     (λ _ _. yields_where expression_kinds (nat_lt 0 n) (λ r. within_index_led _ y (ltb-true 0 n r)) (within_array_led inner.ranks (global_type s path_names)))
 
-within_called_led : {n : ℕ} {inner : Inner} (s : Spot) (path_names : List (List ℕ)) → AreBelow n inner → Yields (LeadWithin (AtMost n)) (called_led n inner s path_names)
+pub within_called_led : {n : ℕ} {inner : Inner} (s : Spot) (path_names : List (List ℕ)) → AreBelow n inner → Yields (LeadWithin (AtMost n)) (called_led n inner s path_names)
 within_called_led {n = n} s path_names y =
     yields_then
     (yields_where (paren ∷ []) (nat_lt 0 n) (λ r. within_called_path s path_names y (ltb-true 0 n r)) (yields_gives {P = AtMost n} _ (omega arith)))
     (λ a p. within_rest_of_form a y p)
 
-within_path_led : {n : ℕ} {inner : Inner} (s : Spot) → AreBelow n inner → Yields (LeadWithin (AtMost n)) (path_led n inner s)
+pub within_path_led : {n : ℕ} {inner : Inner} (s : Spot) → AreBelow n inner → Yields (LeadWithin (AtMost n)) (path_led n inner s)
 within_path_led s y =
     yields_then {Q = λ _. Unit {0}} (any_sign colons)
     (λ _ _. yields_then {Q = λ _. Unit {0}} (yields_any path)

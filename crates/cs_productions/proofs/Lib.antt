@@ -9,3 +9,5 @@ pub mod ExactLevels
 pub mod Heights
 pub mod Deepening
 pub mod DeeperTypes
+pub mod Growing
+pub mod DeeperCalls
