@@ -1,0 +1,2 @@
+-- Inner facts: what is computed once of the types.
+pub mod Supers
