@@ -1,14 +1,10 @@
 //! Method bodies as C# trees (ECMA-334, clauses 12 and 13).
 //!
 //! A [`Body`] has its home, its variables and its statements; statements hold expressions and statements. Variables and labels
-//! are named by number, members by their number in the assembly. Trees are copied and compared as wholes.
+//! are named by number, members by their number in the assembly.
 #![tactic(auto)]
 
 mod body;
-mod copying;
-mod same;
-#[cfg(test)]
-mod tests;
 mod tree;
 
 pub use body::{Body, Home, Role, Var};

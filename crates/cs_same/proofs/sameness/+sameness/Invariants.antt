@@ -1,5 +1,5 @@
 use Rattle.std.proofs.Common.{◌≡◌, take, length}
-use Rattle.cs_body.proofs.same.+sameness.Given as goal
+use Rattle.cs_same.proofs.sameness.+sameness.Given as goal
 
 abbrev pub invariant-same_exprs-loop-index : goal.invariant-same_exprs-loop-index
 invariant-same_exprs-loop-index l = (length l.exprs ≡ length l.other) × (take l.index l.exprs ≡ take l.index l.other)

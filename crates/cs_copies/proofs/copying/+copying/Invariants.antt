@@ -1,5 +1,5 @@
 use Rattle.std.proofs.Common.{◌≡◌, take}
-use Rattle.cs_body.proofs.copying.+copying.Given as goal
+use Rattle.cs_copies.proofs.copying.+copying.Given as goal
 
 abbrev pub invariant-copied_exprs-loop-expr : goal.invariant-copied_exprs-loop-expr
 invariant-copied_exprs-loop-expr l = l.copy ≡ take l.expr-index l.exprs

@@ -2,47 +2,40 @@
 
 ghost use Rattle.std.specs.Prelude.{◌≡◌, IfOk};
 
-use crate::body::Body;
-use crate::tree::{Case, Catch, Expr, Literal, Section, Stmt};
+use cs_body::{Body, Case, Catch, Expr, Literal, Section, Stmt};
 use dc_base::{Boxed, Items, NoMemory, Seq};
 use std::alloc::Global;
 
-impl Body {
-    pub fn copied(&self, alloc: Global) -> Result<Body, NoMemory>
-        ensures { IfOk result (λ copy. copy ≡ self.now) }
-    {
-        Ok(Body {
-            home: self.home,
-            vars: self.vars.copied(alloc)?,
-            stmts: copied_block(alloc, self.stmts.as_slice())?,
-        })
+pub fn copied_body(alloc: Global, body: &Body) -> Result<Body, NoMemory>
+    ensures { IfOk result (λ copy. copy ≡ body.now) }
+{
+    Ok(Body {
+        home: body.home,
+        vars: body.vars.copied(alloc)?,
+        stmts: copied_block(alloc, body.stmts.as_slice())?,
+    })
+}
+
+pub fn copied_literal(alloc: Global, literal: &Literal) -> Result<Literal, NoMemory>
+    ensures { IfOk result (λ copy. copy ≡ literal.now) }
+{
+    match literal {
+        Literal::Bool(value) => Ok(Literal::Bool(*value)),
+        Literal::Char(unit) => Ok(Literal::Char(*unit)),
+        Literal::Int(value) => Ok(Literal::Int(*value)),
+        Literal::Uint(value) => Ok(Literal::Uint(*value)),
+        Literal::Long(value) => Ok(Literal::Long(*value)),
+        Literal::Ulong(value) => Ok(Literal::Ulong(*value)),
+        Literal::Text(units) => Ok(Literal::Text(units.copied(alloc)?)),
     }
 }
 
-impl Literal {
-    pub fn copied(&self, alloc: Global) -> Result<Literal, NoMemory>
-        ensures { IfOk result (λ copy. copy ≡ self.now) }
-    {
-        match self {
-            Literal::Bool(value) => Ok(Literal::Bool(*value)),
-            Literal::Char(unit) => Ok(Literal::Char(*unit)),
-            Literal::Int(value) => Ok(Literal::Int(*value)),
-            Literal::Uint(value) => Ok(Literal::Uint(*value)),
-            Literal::Long(value) => Ok(Literal::Long(*value)),
-            Literal::Ulong(value) => Ok(Literal::Ulong(*value)),
-            Literal::Text(units) => Ok(Literal::Text(units.copied(alloc)?)),
-        }
-    }
-}
-
-impl Case {
-    pub fn copied(&self, alloc: Global) -> Result<Case, NoMemory>
-        ensures { IfOk result (λ copy. copy ≡ self.now) }
-    {
-        match self {
-            Case::Of(value) => Ok(Case::Of(value.copied(alloc)?)),
-            Case::Otherwise => Ok(Case::Otherwise),
-        }
+pub fn copied_case(alloc: Global, case: &Case) -> Result<Case, NoMemory>
+    ensures { IfOk result (λ copy. copy ≡ case.now) }
+{
+    match case {
+        Case::Of(value) => Ok(Case::Of(copied_literal(alloc, value)?)),
+        Case::Otherwise => Ok(Case::Otherwise),
     }
 }
 
@@ -51,21 +44,13 @@ fn copied_cases(alloc: Global, cases: &[Case]) -> Result<Seq<Case>, NoMemory>
 {
     let mut copy = Seq::new(alloc);
     for case in cases {
-        copy.push(case.copied(alloc)?)?;
+        copy.push(copied_case(alloc, case)?)?;
     }
     Ok(copy)
 }
 
-impl Section {
-    pub fn copied(&self, alloc: Global) -> Result<Section, NoMemory>
-        ensures { IfOk result (λ copy. copy ≡ self.now) }
-    {
-        copied_section(alloc, self)
-    }
-}
-
 #[cycle(copying)]
-fn copied_section(alloc: Global, section: &Section) -> Result<Section, NoMemory>
+pub fn copied_section(alloc: Global, section: &Section) -> Result<Section, NoMemory>
     ensures { IfOk result (λ copy. copy ≡ section.now) }
 {
     Ok(Section {
@@ -74,16 +59,8 @@ fn copied_section(alloc: Global, section: &Section) -> Result<Section, NoMemory>
     })
 }
 
-impl Catch {
-    pub fn copied(&self, alloc: Global) -> Result<Catch, NoMemory>
-        ensures { IfOk result (λ copy. copy ≡ self.now) }
-    {
-        copied_catch(alloc, self)
-    }
-}
-
 #[cycle(copying)]
-fn copied_catch(alloc: Global, catch: &Catch) -> Result<Catch, NoMemory>
+pub fn copied_catch(alloc: Global, catch: &Catch) -> Result<Catch, NoMemory>
     ensures { IfOk result (λ copy. copy ≡ catch.now) }
 {
     Ok(Catch {
@@ -93,16 +70,8 @@ fn copied_catch(alloc: Global, catch: &Catch) -> Result<Catch, NoMemory>
     })
 }
 
-impl Stmt {
-    pub fn copied(&self, alloc: Global) -> Result<Stmt, NoMemory>
-        ensures { IfOk result (λ copy. copy ≡ self.now) }
-    {
-        copied_stmt(alloc, self)
-    }
-}
-
 #[cycle(copying)]
-fn copied_stmt(alloc: Global, stmt: &Stmt) -> Result<Stmt, NoMemory>
+pub fn copied_stmt(alloc: Global, stmt: &Stmt) -> Result<Stmt, NoMemory>
     ensures { IfOk result (λ copy. copy ≡ stmt.now) }
 {
     match stmt {
@@ -226,21 +195,13 @@ fn copied_stmt(alloc: Global, stmt: &Stmt) -> Result<Stmt, NoMemory>
     }
 }
 
-impl Expr {
-    pub fn copied(&self, alloc: Global) -> Result<Expr, NoMemory>
-        ensures { IfOk result (λ copy. copy ≡ self.now) }
-    {
-        copied_expr(alloc, self)
-    }
-}
-
 #[cycle(copying)]
-fn copied_expr(alloc: Global, expr: &Expr) -> Result<Expr, NoMemory>
+pub fn copied_expr(alloc: Global, expr: &Expr) -> Result<Expr, NoMemory>
     ensures { IfOk result (λ copy. copy ≡ expr.now) }
 {
     match expr {
         Expr::Literal { value } => Ok(Expr::Literal {
-            value: value.copied(alloc)?,
+            value: copied_literal(alloc, value)?,
         }),
         Expr::Null => Ok(Expr::Null),
         Expr::Default { ty } => Ok(Expr::Default { ty: *ty }),

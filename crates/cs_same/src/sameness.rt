@@ -2,56 +2,49 @@
 
 ghost use Rattle.std.specs.Prelude.{◌≡◌, ◌↔◌, IsTrue};
 
-use crate::body::{Body, Home, Role, Var};
-use crate::tree::{BinaryOp, Case, Catch, Expr, Literal, Section, Stmt, UnaryOp};
+use cs_body::{
+    BinaryOp, Body, Case, Catch, Expr, Home, Literal, Role, Section, Stmt, UnaryOp, Var,
+};
 use dc_base::{MemberId, Seq, Ty, TypeId};
 
-impl Body {
-    pub fn same(&self, other: &Body) -> bool
-        ensures { IsTrue result ↔ (self.now ≡ other.now) }
-    {
-        self.home.same(&other.home)
-            && same_vars(self.vars.items(), other.vars.items())
-            && same_block(self.stmts.as_slice(), other.stmts.as_slice())
-    }
+pub fn same_body(body: &Body, other: &Body) -> bool
+    ensures { IsTrue result ↔ (body.now ≡ other.now) }
+{
+    same_home(&body.home, &other.home)
+        && same_vars(body.vars.items(), other.vars.items())
+        && same_block(body.stmts.as_slice(), other.stmts.as_slice())
 }
 
-impl Home {
-    pub fn same(&self, other: &Home) -> bool
-        ensures { IsTrue result ↔ (self.now ≡ other.now) }
-    {
-        same_owner(self.owner, other.owner)
-            && self.instance == other.instance
-            && self.constructs == other.constructs
-            && same_ty(&self.result, &other.result)
-    }
+pub fn same_home(home: &Home, other: &Home) -> bool
+    ensures { IsTrue result ↔ (home.now ≡ other.now) }
+{
+    same_owner(home.owner, other.owner)
+        && home.instance == other.instance
+        && home.constructs == other.constructs
+        && same_ty(&home.result, &other.result)
 }
 
-impl Var {
-    pub fn same(&self, other: &Var) -> bool
-        ensures { IsTrue result ↔ (self.now ≡ other.now) }
-    {
-        same_ty(&self.ty, &other.ty) && self.role.same(&other.role)
-    }
+pub fn same_variable(variable: &Var, other: &Var) -> bool
+    ensures { IsTrue result ↔ (variable.now ≡ other.now) }
+{
+    same_ty(&variable.ty, &other.ty) && same_role(&variable.role, &other.role)
 }
 
-impl Role {
-    pub fn same(&self, other: &Role) -> bool
-        ensures { IsTrue result ↔ (self.now ≡ other.now) }
-    {
-        match self {
-            Role::Param => matches!(other, Role::Param),
-            Role::Local => matches!(other, Role::Local),
-            Role::SlotVar => matches!(other, Role::SlotVar),
-            Role::Join => matches!(other, Role::Join),
-            Role::Captured { maker, field } => match other {
-                Role::Captured {
-                    maker: maker_,
-                    field: field_,
-                } => same_member(*maker, *maker_) && same_member(*field, *field_),
-                _ => false,
-            },
-        }
+pub fn same_role(role: &Role, other: &Role) -> bool
+    ensures { IsTrue result ↔ (role.now ≡ other.now) }
+{
+    match role {
+        Role::Param => matches!(other, Role::Param),
+        Role::Local => matches!(other, Role::Local),
+        Role::SlotVar => matches!(other, Role::SlotVar),
+        Role::Join => matches!(other, Role::Join),
+        Role::Captured { maker, field } => match other {
+            Role::Captured {
+                maker: maker_,
+                field: field_,
+            } => same_member(*maker, *maker_) && same_member(*field, *field_),
+            _ => false,
+        },
     }
 }
 
@@ -62,43 +55,39 @@ fn same_vars(vars: &[Var], other: &[Var]) -> bool
         return false;
     }
     for index in 0..vars.len() {
-        if !vars[index].same(&other[index]) {
+        if !same_variable(&vars[index], &other[index]) {
             return false;
         }
     }
     true
 }
 
-impl Literal {
-    pub fn same(&self, other: &Literal) -> bool
-        ensures { IsTrue result ↔ (self.now ≡ other.now) }
-    {
-        match self {
-            Literal::Bool(value) => matches!(other, Literal::Bool(value_) if *value == *value_),
-            Literal::Char(unit) => matches!(other, Literal::Char(unit_) if *unit == *unit_),
-            Literal::Int(value) => matches!(other, Literal::Int(value_) if *value == *value_),
-            Literal::Uint(value) => matches!(other, Literal::Uint(value_) if *value == *value_),
-            Literal::Long(value) => matches!(other, Literal::Long(value_) if *value == *value_),
-            Literal::Ulong(value) => matches!(other, Literal::Ulong(value_) if *value == *value_),
-            Literal::Text(units) => match other {
-                Literal::Text(units_) => same_units(units, units_),
-                _ => false,
-            },
-        }
+pub fn same_literal(literal: &Literal, other: &Literal) -> bool
+    ensures { IsTrue result ↔ (literal.now ≡ other.now) }
+{
+    match literal {
+        Literal::Bool(value) => matches!(other, Literal::Bool(value_) if *value == *value_),
+        Literal::Char(unit) => matches!(other, Literal::Char(unit_) if *unit == *unit_),
+        Literal::Int(value) => matches!(other, Literal::Int(value_) if *value == *value_),
+        Literal::Uint(value) => matches!(other, Literal::Uint(value_) if *value == *value_),
+        Literal::Long(value) => matches!(other, Literal::Long(value_) if *value == *value_),
+        Literal::Ulong(value) => matches!(other, Literal::Ulong(value_) if *value == *value_),
+        Literal::Text(units) => match other {
+            Literal::Text(units_) => same_units(units, units_),
+            _ => false,
+        },
     }
 }
 
-impl Case {
-    pub fn same(&self, other: &Case) -> bool
-        ensures { IsTrue result ↔ (self.now ≡ other.now) }
-    {
-        match self {
-            Case::Of(value) => match other {
-                Case::Of(value_) => value.same(value_),
-                Case::Otherwise => false,
-            },
-            Case::Otherwise => matches!(other, Case::Otherwise),
-        }
+pub fn same_case(case: &Case, other: &Case) -> bool
+    ensures { IsTrue result ↔ (case.now ≡ other.now) }
+{
+    match case {
+        Case::Of(value) => match other {
+            Case::Of(value_) => same_literal(value, value_),
+            Case::Otherwise => false,
+        },
+        Case::Otherwise => matches!(other, Case::Otherwise),
     }
 }
 
@@ -163,39 +152,23 @@ fn same_cases(cases: &[Case], other: &[Case]) -> bool
         return false;
     }
     for index in 0..cases.len() {
-        if !cases[index].same(&other[index]) {
+        if !same_case(&cases[index], &other[index]) {
             return false;
         }
     }
     true
 }
 
-impl Section {
-    pub fn same(&self, other: &Section) -> bool
-        ensures { IsTrue result ↔ (self.now ≡ other.now) }
-    {
-        same_section(self, other)
-    }
-}
-
 #[cycle(sameness)]
-fn same_section(section: &Section, other: &Section) -> bool
+pub fn same_section(section: &Section, other: &Section) -> bool
     ensures { IsTrue result ↔ (section.now ≡ other.now) }
 {
     same_cases(section.cases.items(), other.cases.items())
         && same_block(section.block.as_slice(), other.block.as_slice())
 }
 
-impl Catch {
-    pub fn same(&self, other: &Catch) -> bool
-        ensures { IsTrue result ↔ (self.now ≡ other.now) }
-    {
-        same_catch(self, other)
-    }
-}
-
 #[cycle(sameness)]
-fn same_catch(catch: &Catch, other: &Catch) -> bool
+pub fn same_catch(catch: &Catch, other: &Catch) -> bool
     ensures { IsTrue result ↔ (catch.now ≡ other.now) }
 {
     same_class(catch.class, other.class)
@@ -203,16 +176,8 @@ fn same_catch(catch: &Catch, other: &Catch) -> bool
         && same_block(catch.block.as_slice(), other.block.as_slice())
 }
 
-impl Stmt {
-    pub fn same(&self, other: &Stmt) -> bool
-        ensures { IsTrue result ↔ (self.now ≡ other.now) }
-    {
-        same_stmt(self, other)
-    }
-}
-
 #[cycle(sameness)]
-fn same_stmt(stmt: &Stmt, other: &Stmt) -> bool
+pub fn same_stmt(stmt: &Stmt, other: &Stmt) -> bool
     ensures { IsTrue result ↔ (stmt.now ≡ other.now) }
 {
     match stmt {
@@ -410,21 +375,13 @@ fn same_stmt(stmt: &Stmt, other: &Stmt) -> bool
     }
 }
 
-impl Expr {
-    pub fn same(&self, other: &Expr) -> bool
-        ensures { IsTrue result ↔ (self.now ≡ other.now) }
-    {
-        same_expr(self, other)
-    }
-}
-
 #[cycle(sameness)]
-fn same_expr(expr: &Expr, other: &Expr) -> bool
+pub fn same_expr(expr: &Expr, other: &Expr) -> bool
     ensures { IsTrue result ↔ (expr.now ≡ other.now) }
 {
     match expr {
         Expr::Literal { value } => match other {
-            Expr::Literal { value: value_ } => value.same(value_),
+            Expr::Literal { value: value_ } => same_literal(value, value_),
             _ => false,
         },
         Expr::Null => matches!(other, Expr::Null),

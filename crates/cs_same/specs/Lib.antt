@@ -1,0 +1,1 @@
+-- No definition but that of the code's types is wanted.
