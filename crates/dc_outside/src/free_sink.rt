@@ -1,53 +1,58 @@
 // A sink that keeps nothing.
 
-ghost use Rattle.std.specs.Prelude.{◌≡◌, ◌+◌, ◌-◌, ◌^◌, ◌<◌, length, min};
+ghost use Rattle.std.specs.Prelude.{◌≡◌, ◌++◌, ◌-◌, ◌^◌, ◌<◌, [], length, min};
 
-use crate::{Failed, Sink};
+use crate::{Failed, Sink, SinkLog};
 use std::marker::Model;
 
-/// Counts the bytes that it is given, up to 2^64 - 1, and never fails. Contracts see it as that count.
+/// Counts the bytes that it is given, up to 2^64 - 1, and never fails. Contracts see it as all bytes that it was given.
 #[derive(Debug, Drop)]
 pub struct FreeSink {
     taken: u64,
+    log: SinkLog,
 }
 
 impl Model for FreeSink {
-    ghost use Rattle.std.specs.Prelude.{ℕ};
+    ghost use Rattle.std.specs.Prelude.{◌≡◌, ◌-◌, ◌^◌, ℕ, List, length, min};
 
-    ghost Value = { ℕ };
+    ghost Value = { List ℕ };
 
-    ghost view = { λ s. s.taken };
+    ghost view = { λ s. s.log.taken };
+
+    ghost invariant = { λ s. s.taken ≡ min (length s.log.taken) (2 ^ 64 - 1) };
 }
 
 impl FreeSink {
     pub fn of() -> FreeSink
-        ensures { result ≡ 0 }
+        ensures { result ≡ [] }
     {
-        FreeSink { taken: 0 }
+        FreeSink {
+            taken: 0,
+            log: SinkLog::new(),
+        }
     }
 
     /// In bytes.
     pub fn taken(&self) -> u64
-        ensures { result ≡ self.now }
+        ensures { result ≡ min (length self.now) (2 ^ 64 - 1) }
     {
         self.taken
     }
 }
 
 impl Sink for FreeSink {
-    ghost use Rattle.std.specs.Prelude.{None};
-
-    ghost written = { λ _. None };
+    ghost written = { λ s. s };
 
     ghost faults = { λ _. 0 };
 
     fn put(&mut self, piece: &[u8]) -> Result<usize, Failed>
         requires { 0 < length piece.now }
-        // It takes the whole piece, and counts its bytes.
+        // It takes the whole piece.
         ensures whole { result ≡ Ok (length piece.now) }
-        ensures taken { self.new ≡ min (self.old + length piece.now) (2 ^ 64 - 1) }
+        ensures taken { self.new ≡ self.old ++ piece.now }
     {
         self.taken = self.taken.saturating_add(piece.len() as u64);
+        self.log = self.log.and(piece);
         Ok(piece.len())
     }
 }

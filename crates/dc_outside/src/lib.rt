@@ -8,6 +8,7 @@
 
 mod free_sink;
 mod gate;
+mod log;
 mod mem_shelf;
 mod mem_sink;
 mod script;
@@ -16,6 +17,7 @@ mod sink;
 
 pub use free_sink::FreeSink;
 pub use gate::{Gate, OpenGate};
+pub use log::{ShelfLog, SinkLog};
 pub use mem_shelf::MemShelf;
 pub use mem_sink::MemSink;
 pub use shelf::{Shelf, TakeFault};

@@ -1,13 +1,13 @@
 // A shelf in memory.
 
-ghost use Rattle.std.specs.Prelude.{◌≡◌, ◌≤◌, find};
+ghost use Rattle.std.specs.Prelude.{◌≡◌, ◌≤◌, [], find};
 ghost use Rattle.std.specs.Option.{option_copied};
 ghost use Rattle.std.specs.Str.{bytes_eq};
-ghost use Rattle.dc_outside.specs.Outside.{Takes, CountsTake, one_more};
+ghost use Rattle.dc_outside.specs.Outside.{Takes, CountsTake, given_after, one_more};
 ghost use Rattle.dc_outside.specs.MemShelf.{entries_of, file_of, Reads, TakesFromMemory, after_take};
 
 use crate::script::Script;
-use crate::{Shelf, TakeFault};
+use crate::{Shelf, ShelfLog, TakeFault};
 use dc_base::{Or, Text};
 use std::alloc::Global;
 use std::marker::Model;
@@ -20,6 +20,7 @@ pub struct MemShelf {
     script: Script,
     faults: u64,
     last: Option<Text>,
+    log: ShelfLog,
 }
 
 impl Model for MemShelf {
@@ -33,6 +34,7 @@ impl Model for MemShelf {
       calls = s.script.calls;
       faults = s.faults;
       last = s.last;
+      given = s.log.given;
     } };
 }
 
@@ -46,6 +48,7 @@ impl MemShelf {
           calls = 0;
           faults = 0;
           last = None;
+          given = [];
         } }
     {
         MemShelf {
@@ -53,6 +56,7 @@ impl MemShelf {
             script: Script::of(fails),
             faults: 0,
             last: None,
+            log: ShelfLog::new(),
         }
     }
 
@@ -79,8 +83,11 @@ impl Shelf for MemShelf {
 
     ghost last = { λ s. s.last };
 
+    ghost given = { λ s. s.given };
+
     fn take(&mut self, alloc: Global, name: &Text, limit: u64) -> Result<Vec<u8>, Or<TakeFault>>
         ensures takes { Takes (Some (file_of self.old.entries)) name.now limit result }
+        ensures gives { self.new.given ≡ given_after self.old.given name.now result }
         ensures counts { CountsTake name.now self.old.faults self.new.faults self.old.last
             self.new.last result }
         ensures never_falls { self.old.faults ≤ self.new.faults }
@@ -101,6 +108,7 @@ impl Shelf for MemShelf {
             self.count_fault(copy);
             return Err(Or::Fault(TakeFault::Failed));
         }
+        self.log = self.log.and(name, &answer);
         answer
     }
 }

@@ -85,15 +85,13 @@ impl MemSink {
 }
 
 impl Sink for MemSink {
-    ghost use Rattle.std.specs.Prelude.{Some};
-
-    ghost written = { λ s. Some s.written };
+    ghost written = { λ s. s.written };
 
     ghost faults = { λ s. s.faults };
 
     fn put(&mut self, piece: &[u8]) -> Result<usize, Failed>
         requires { 0 < length piece.now }
-        ensures puts { Puts piece.now (Some self.old.written) (Some self.new.written) result }
+        ensures puts { Puts piece.now self.old.written self.new.written result }
         ensures counts { CountsPut self.old.faults self.new.faults result }
         ensures never_falls { self.old.faults ≤ self.new.faults }
 

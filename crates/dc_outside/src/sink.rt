@@ -1,6 +1,6 @@
 // Where bytes are written to.
 
-ghost use Rattle.std.specs.Prelude.{◌≡◌, ◌<◌, ◌≤◌, ℕ, List, Option, length};
+ghost use Rattle.std.specs.Prelude.{◌≡◌, ◌<◌, ◌≤◌, ℕ, List, length};
 ghost use Rattle.dc_outside.specs.Outside.{Puts, CountsPut};
 
 use thiserror::Error;
@@ -12,8 +12,8 @@ pub struct Failed;
 
 /// Takes bytes in order.
 pub trait Sink {
-    /// All bytes that were taken, in order; none where the sink doesn't tell them.
-    ghost written: { Self → Option (List ℕ) };
+    /// All bytes that were taken, in order. A sink that doesn't keep them keeps a `SinkLog`.
+    ghost written: { Self → List ℕ };
 
     /// How many calls have failed, up to 2^64 - 1.
     ghost faults: { Self → ℕ };
