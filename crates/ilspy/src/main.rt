@@ -1,19 +1,15 @@
-//! The program `ilspy`: `run` over the system's files and standard output.
+//! The program `ilspy`: `run_process` over the process's words, the system's files and standard output.
 #![tactic(auto)]
 
 use dc_outside::OpenGate;
-use ilspy_cli::{DirShelf, OutSink, Status, process_words, run};
+use ilspy_cli::{process_words, run_process};
+use ilspy_outside::{DirShelf, OutSink, SystemDisk};
 use std::io;
 use std::process::ExitCode;
 
 fn main(rt: HostRuntime) -> ExitCode {
-    let status = match process_words(&rt) {
-        Ok(words) => {
-            let mut shelf = DirShelf::of(&rt);
-            let mut out = OutSink::of(io::writer(&rt));
-            run(&rt, rt.alloc(), &words, &mut shelf, &mut out, &OpenGate)
-        }
-        Err(_) => Status::NoMemory,
-    };
-    status.exit_code()
+    let words = process_words(&rt);
+    let mut shelf = DirShelf::of(SystemDisk::of(&rt));
+    let mut out = OutSink::of(io::writer(&rt));
+    run_process(&rt, rt.alloc(), &words, &mut shelf, &mut out, &OpenGate)
 }

@@ -1,5 +1,5 @@
 -- The files of a request are read in one way.
-use Rattle.std.proofs.Common.{◌≡◌, ◌≤◌, ℕ, List, [], ◌∷◌, ◌++◌, length, Option, Some, option_map, refl, sym, ap, ap₂, subst, ◌∙◌, arith}
+use Rattle.std.proofs.Common.{◌≡◌, ◌≤◌, ℕ, List, [], ◌∷◌, ◌++◌, length, Option, Some, refl, sym, ap, ap₂, subst, ◌∙◌, arith}
 use Rattle.ilspy_cli.specs.Files.{Files, Wanted, AreRead, AreWithin, IsNext, IsTooLong}
 
 -- what was read is within the limits
@@ -25,9 +25,9 @@ module _ (files : List ℕ → Option (List ℕ)) where
   -- a file that was read isn't too long
   not_too_long : (file : Wanted) (bytes : List ℕ) → files file.name ≡ Some bytes → length bytes ≤ file.limit → IsTooLong (Some files) file → ⊥
   not_too_long file bytes is short long =
-      let e : Some (length bytes) ≡ Some long.bytes = sym (ap (option_map length) is) ∙ long.is_length in
-      let n : length bytes ≡ long.bytes = cc in
-      omega (arith, short, long.long)
+      let e : Some bytes ≡ Some long.has.0 = sym is ∙ long.has.1 in
+      let same : bytes ≡ long.has.0 = cc in
+      omega (arith, short, ap length same, long.has.2, long.long)
 
   -- where a file is too long, not all were read
   not_all : (before behind : List Wanted) (file : Wanted) (xs : List (List ℕ)) → IsTooLong (Some files) file → AreRead (Some files) (before ++ file ∷ behind) xs → ⊥

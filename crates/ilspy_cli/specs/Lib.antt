@@ -6,6 +6,6 @@ pub mod Escape
 pub mod Show
 pub mod Files
 pub mod Outcome
--- Inner facts: what taking files answers, and what the real shelf gives.
+pub mod Process
+-- Inner facts: what taking files answers.
 pub mod Taking
-pub mod Outside

@@ -1,5 +1,5 @@
 -- What a run comes to.
-use Rattle.std.specs.Prelude.{◌≡◌, ℕ, List, [], ◌∷◌, ◌++◌, Option, option_map}
+use Rattle.std.specs.Prelude.{◌≡◌, ℕ, List, [], ◌∷◌, ◌++◌, Some}
 use Rattle.cil_lone.specs.declared.standalone.LoneFault.{LoneFault}
 use Rattle.cil_lone.specs.Cut.{Placed}
 use Rattle.cil_lone.specs.Lone.{IsLone, IsLoneFault}
@@ -12,7 +12,7 @@ use Rattle.ilspy_cli.specs.declared.status.Status.TheVariants.{Done, Refused, Us
 use Rattle.ilspy_cli.specs.declared.words.Request.{Request}
 use Rattle.ilspy_cli.specs.declared.words.Request.TheVariants.{Body, Show}
 use Rattle.ilspy_cli.specs.Words.{AsksFor}
-use Rattle.ilspy_cli.specs.Files.{Files, Wanted, files_of, Shelved, HasNotFailed, HasFailedAt, AreRead, IsNext, IsTooLong}
+use Rattle.ilspy_cli.specs.Files.{Wanted, files_of, Shelved, HasNotFailed, HasFailedAt, AreRead, HasGiven, given_for, is_longer, IsTooLong, StopsAt}
 use Rattle.ilspy_cli.specs.Show.{IsShowDue}
 use Rattle.ilspy_cli.specs.Lines.{usage_line, cannot_read_line, too_big_line, fault_line}
 
@@ -27,30 +27,31 @@ IsRequestDue (Body name) (file ∷ []) status text = IsBodyDue file status text
 IsRequestDue (Show name) (assembly ∷ []) status text = IsShowDue assembly status text
 IsRequestDue request contents status text = ⊥
 
--- What is due for words, by what the shelf did: the usage, where they ask for nothing; the line of the first file that
--- wasn't given, since it is too long or its read failed; or what is due for the files.
+-- What is due for words, by what the shelf did: the usage, where they ask for nothing, and then nothing was read; the line
+-- of the first file that wasn't given, since it is too long or its read failed; or what is due for the bytes that the shelf
+-- gave for the files of the words, each once and in their order, and which are the files where it tells them.
 pub data IsDue (shelf : Shelved) (words : List (List ℕ)) (status : Status) (text : List ℕ) : Type 0 where
-  usage : HasNotFailed shelf → ((request : Request) → AsksFor words request → ⊥) → status ≡ Usage → text ≡ usage_line → IsDue shelf words status text
-  too_big : (request : Request) (file : Wanted) → HasNotFailed shelf → AsksFor words request → IsNext shelf.files (files_of request) file
+  usage : HasNotFailed shelf → HasGiven shelf [] → ((request : Request) → AsksFor words request → ⊥) → status ≡ Usage → text ≡ usage_line → IsDue shelf words status text
+  too_big : (request : Request) (file : Wanted) → HasNotFailed shelf → AsksFor words request → StopsAt shelf (files_of request) file (is_longer file)
       → IsTooLong shelf.files file → status ≡ Refused → text ≡ too_big_line file.name → IsDue shelf words status text
-  unread : (request : Request) (file : Wanted) → HasFailedAt shelf file.name → AsksFor words request → IsNext shelf.files (files_of request) file
+  unread : (request : Request) (file : Wanted) → HasFailedAt shelf file.name → AsksFor words request → StopsAt shelf (files_of request) file []
       → status ≡ ReadFault → text ≡ cannot_read_line file.name → IsDue shelf words status text
   of_files : (request : Request) (contents : List (List ℕ)) → HasNotFailed shelf → AsksFor words request
-      → AreRead shelf.files (files_of request) contents → IsRequestDue request contents status text → IsDue shelf words status text
+      → AreRead shelf.files (files_of request) contents → HasGiven shelf (given_for (files_of request) contents) → IsRequestDue request contents status text → IsDue shelf words status text
 
--- a sink over a run: its bytes, where it tells them, and its count of faults, before the run and now
+-- a sink over a run: all bytes that it took, and its count of faults, before the run and now
 pub record Sunk : Type 0 where
-  pub old : Option (List ℕ)
-  pub new : Option (List ℕ)
+  pub old : List ℕ
+  pub new : List ℕ
   pub before : ℕ
   pub now : ℕ
 
-abbrev pub sunk : Option (List ℕ) → Option (List ℕ) → ℕ → ℕ → Sunk
+abbrev pub sunk : List ℕ → List ℕ → ℕ → ℕ → Sunk
 sunk old new before now = record { old = old; new = new; before = before; now = now }
 
--- the sink has these bytes more, where it tells its bytes
+-- the sink took just these bytes
 abbrev pub Adds : Sunk → List ℕ → Type 0
-Adds sink text = sink.new ≡ option_map (λ bytes. bytes ++ text) sink.old
+Adds sink text = sink.new ≡ sink.old ++ text
 
 -- a front of the text was written, and the sink has counted a fault
 pub record IsCutShort (sink : Sunk) (text : List ℕ) : Type 0 where
@@ -65,17 +66,18 @@ pub record IsWritten (sink : Sunk) (text : List ℕ) : Type 0 where
   pub adds : Adds sink text
   pub unfailed : sink.now ≡ sink.before
 
--- what is written means what the named file's code means
-pub record WroteTheSame (files : Files) (name : List ℕ) (sink : Sunk) : Type 0 where
+-- what is written means what the code means that the shelf gave under this name, which is the file where it tells that
+pub record WroteTheSame (shelf : Shelved) (name : List ℕ) (sink : Sunk) : Type 0 where
   pub file : List ℕ
-  pub is_file : IsFile files name file
+  pub given : HasGiven shelf ((name, Some file) ∷ [])
+  pub is_file : IsFile shelf.files name file
   pub text : List ℕ
   pub adds : Adds sink text
   pub same : LoneBodyMeansTheSame file text
 
 -- of a `body` that ended well, what was written means what the named file's code means
-abbrev pub MeansTheSame : Files → List (List ℕ) → Sunk → Status → Type 0
-MeansTheSame files words sink status = status ≡ Done → (name : List ℕ) → AsksFor words (Body name) → WroteTheSame files name sink
+abbrev pub MeansTheSame : Shelved → List (List ℕ) → Sunk → Status → Type 0
+MeansTheSame shelf words sink status = status ≡ Done → (name : List ℕ) → AsksFor words (Body name) → WroteTheSame shelf name sink
 
 -- a count of faults has not risen
 abbrev pub HasNotRisen : ℕ → ℕ → Type 0

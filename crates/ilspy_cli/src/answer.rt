@@ -28,7 +28,7 @@ pub(crate) fn answer_words<S: Shelf>(
     words: &[Text],
     shelf: &mut S,
 ) -> Result<Answer, NoMemory>
-    ensures due { IfOk result (λ answer. IsDue (shelved (S.files shelf.old) (S.faults shelf.old) (S.faults shelf.new) (S.last shelf.old) (S.last shelf.new))
+    ensures due { IfOk result (λ answer. IsDue (shelved (S.files shelf.old) (S.faults shelf.old) (S.faults shelf.new) (S.last shelf.old) (S.last shelf.new) (S.given shelf.old) (S.given shelf.new))
         words.now answer.status answer.text) }
     ensures last { HasNotRisen (S.faults shelf.old) (S.faults shelf.new) → S.last shelf.new ≡ S.last shelf.old }
     ensures never_falls { S.faults shelf.old ≤ S.faults shelf.new }

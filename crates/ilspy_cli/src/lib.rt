@@ -24,11 +24,10 @@
 #![tactic(auto)]
 
 mod answer;
-mod dir_shelf;
 mod due;
 mod escape;
 mod lines;
-mod out_sink;
+mod process;
 mod program;
 mod put;
 mod shown;
@@ -36,9 +35,7 @@ mod status;
 mod taking;
 mod words;
 
-pub use dir_shelf::DirShelf;
 pub use due::one_due;
-pub use out_sink::OutSink;
+pub use process::{process_words, run_process};
 pub use program::run;
 pub use status::Status;
-pub use words::process_words;

@@ -1,6 +1,7 @@
 // The top call.
 
 ghost use Rattle.std.specs.Prelude.{◌≡◌, ◌⊎◌, ◌<◌, ◌≤◌, ℕ, List, Option, Some};
+ghost use Rattle.dc_outside.specs.Outside.{Given};
 ghost use Rattle.ilspy_cli.specs.declared.status.Status.{Status as StatusOf};
 ghost use Rattle.ilspy_cli.specs.Files.{shelved};
 ghost use Rattle.ilspy_cli.specs.Outcome.{HasNotRisen, IsAfterReadFault, IsDue, IsOutcome, IsWithoutFault, MeansTheSame, sunk};
@@ -30,17 +31,21 @@ pub fn run<R: Threads + Sync, S: Shelf, K: Sink, G: Gate + Sync>(
 ) -> Status
     // What is written, and with which status.
     ensures outcome { IsOutcome
-        (IsDue (shelved (S.files shelf.old) (S.faults shelf.old) (S.faults shelf.new) (S.last shelf.old) (S.last shelf.new)) words.now)
+        (IsDue (shelved (S.files shelf.old) (S.faults shelf.old) (S.faults shelf.new) (S.last shelf.old) (S.last shelf.new)
+        (S.given shelf.old) (S.given shelf.new)) words.now)
         (sunk (K.written out.old) (K.written out.new) (K.faults out.old) (K.faults out.new)) result }
 
-    // The theorem: the text that `body` writes means what the file's bytes mean.
-    ensures means_the_same { MeansTheSame (S.files shelf.old) words.now
+    // The theorem: the text that `body` writes means what the bytes mean that the shelf gave under the file's name.
+    ensures means_the_same { MeansTheSame
+        (shelved (S.files shelf.old) (S.faults shelf.old) (S.faults shelf.new) (S.last shelf.old) (S.last shelf.new)
+        (S.given shelf.old) (S.given shelf.new)) words.now
         (sunk (K.written out.old) (K.written out.new) (K.faults out.old) (K.faults out.new)) result }
 
-    // Where the outside counts no fault, what is due is what is written, want of memory aside.
+    // Where the outside counts no fault, what is due for the files is what is written, want of memory aside.
     ensures exact { HasNotRisen (S.faults shelf.old) (S.faults shelf.new) → HasNotRisen (K.faults out.old) (K.faults out.new)
-        → (files : List ℕ → Option (List ℕ)) → S.files shelf.old ≡ Some files → (status : StatusOf) (text : List ℕ)
-        → IsDue (shelved (S.files shelf.old) (S.faults shelf.old) (S.faults shelf.new) (S.last shelf.old) (S.last shelf.new)) words.now status text
+        → (files : List ℕ → Option (List ℕ)) → S.files shelf.old ≡ Some files → (given : List Given) (status : StatusOf) (text : List ℕ)
+        → IsDue (shelved (S.files shelf.old) (S.faults shelf.old) (S.faults shelf.new) (S.last shelf.old) (S.last shelf.new)
+        (S.given shelf.old) given) words.now status text
         → (result ≡ status) ⊎ (result ≡ Status.NoMemory) }
 
     ensures without_faults { HasNotRisen (S.faults shelf.old) (S.faults shelf.new) → HasNotRisen (K.faults out.old) (K.faults out.new)

@@ -24,7 +24,7 @@ pub(crate) fn take_all<'a, S: Shelf>(
     shelf: &mut S,
     files: &[(&'a Text, u64)],
 ) -> Result<Vec<Vec<u8>>, Or<Untaken<'a>>>
-    ensures taken { IsTaken (shelved (S.files shelf.old) (S.faults shelf.old) (S.faults shelf.new) (S.last shelf.old) (S.last shelf.new))
+    ensures taken { IsTaken (shelved (S.files shelf.old) (S.faults shelf.old) (S.faults shelf.new) (S.last shelf.old) (S.last shelf.new) (S.given shelf.old) (S.given shelf.new))
         (map (λ file. wanted file.0.now file.1) files.now) result }
     ensures last { HasNotRisen (S.faults shelf.old) (S.faults shelf.new) → S.last shelf.new ≡ S.last shelf.old }
     ensures never_falls { S.faults shelf.old ≤ S.faults shelf.new }

@@ -11,8 +11,6 @@ use clap::error::ErrorKind;
 use clap::{Arg, ArgMatches};
 use dc_base::{NoMemory, Text};
 use std::alloc::{AllocError, Global};
-use std::rt::Env;
-use std::{env, io};
 
 /// The most bytes that the file of a lone body may have.
 const BODY_LIMIT: u64 = 64;
@@ -193,22 +191,6 @@ fn texts_of<'a>(
         texts.push(word.as_str())?;
     }
     Ok(texts)
-}
-
-/// The words of the process, the program's name first. Where they aren't text as a whole, there are none, which is a faulty
-/// command line.
-pub fn process_words<R: Env + AllocGlobal>(rt: &R) -> Result<Vec<Text>, NoMemory> {
-    let mut words = Vec::new(rt.alloc());
-    match env::args(rt) {
-        Ok(args) => {
-            for word in args {
-                words.push(Text::from_string(word))?;
-            }
-            Ok(words)
-        }
-        Err(e) if e.kind() == io::ErrorKind::OutOfMemory => Err(NoMemory),
-        Err(_) => Ok(words),
-    }
 }
 
 #[cfg(test)]

@@ -81,3 +81,89 @@ fn within(front: Vec<u8>, limit: u64) -> Result<Vec<u8>, Or<TakeFault>>
     }
     Ok(front)
 }
+
+#[cfg(test)]
+mod tests {
+    use super::*;
+    use std::io::Read;
+    use std::test::Fail;
+
+    // A file that is interrupted before each read, and gives a byte at a time.
+    #[derive(Drop)]
+    struct Slow<'a> {
+        left: &'a [u8],
+        is_interrupted: bool,
+    }
+
+    impl Read for Slow<'_> {
+        ghost use Rattle.std.specs.Prelude.{Some};
+
+        ghost remaining = { λ file. Some file.left.now };
+
+        fn read(&mut self, buf: &mut [u8]) -> io::Result<usize> {
+            self.is_interrupted = !self.is_interrupted;
+            if self.is_interrupted {
+                return Err(io::Error::from(ErrorKind::Interrupted));
+            }
+            let [first, rest @ ..] = self.left else {
+                return Ok(0);
+            };
+            if buf.is_empty() {
+                return Ok(0);
+            }
+            buf[0] = *first;
+            self.left = rest;
+            Ok(1)
+        }
+    }
+
+    // A disk with one file.
+    #[derive(Drop)]
+    struct OneFile<'a> {
+        path: &'a str,
+        bytes: &'a [u8],
+    }
+
+    impl<'a> Disk for OneFile<'a> {
+        type File = Slow<'a>;
+
+        ghost use Rattle.std.specs.Prelude.{Some};
+        ghost use Rattle.ilspy_outside.specs.Fakes.{only};
+
+        ghost files = { λ disk. Some (only disk.path.now disk.bytes.now) };
+
+        fn open(&self, path: &str) -> io::Result<Slow<'a>> {
+            if path != self.path {
+                return Err(io::Error::from(ErrorKind::NotFound));
+            }
+            Ok(Slow {
+                left: self.bytes,
+                is_interrupted: false,
+            })
+        }
+    }
+
+    #[test]
+    fn reads_a_slow_file_up_to_one_byte_past_the_limit(rt: HostRuntime) -> Result<(), Fail> {
+        let alloc = rt.alloc();
+        let mut shelf = DirShelf::of(OneFile {
+            path: "f",
+            bytes: &[1, 2, 3, 4],
+        });
+        for (name, limit, want) in [
+            ("f", 4, "Ok([1, 2, 3, 4])"),
+            ("f", 3, "Err(Fault(Longer(4)))"),
+            ("f", 2, "Err(Fault(Longer(3)))"),
+            ("g", 4, "Err(Fault(Failed))"),
+            ("f", u64::MAX, "Ok([1, 2, 3, 4])"),
+        ] {
+            let answer = shelf.take(alloc, &Text::of(alloc, name)?, limit);
+            assert_eq!(rt;
+                format!(in alloc; "{answer:?}")?.as_str(),
+                want,
+                "at {name} {limit}"
+            );
+        }
+        Ok(())
+    }
+}

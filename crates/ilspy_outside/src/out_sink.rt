@@ -73,3 +73,66 @@ fn write_front<W: Write>(writer: &mut W, piece: &[u8]) -> usize
     }
     done
 }
+
+#[cfg(test)]
+mod tests {
+    use super::*;
+    use std::alloc::Global;
+    use std::io;
+    use std::test::Fail;
+
+    // A writer that is interrupted before each write, takes a byte at a time, and fails once it is full.
+    #[derive(Drop)]
+    struct Slow {
+        bytes: Vec<u8>,
+        room: usize,
+        is_interrupted: bool,
+    }
+
+    impl Write for Slow {
+        ghost use Rattle.std.specs.Prelude.{Some};
+
+        ghost contents = { λ writer. Some writer.bytes.items };
+
+        fn write(&mut self, buf: &[u8]) -> io::Result<usize> {
+            self.is_interrupted = !self.is_interrupted;
+            if self.is_interrupted {
+                return Err(io::Error::from(ErrorKind::Interrupted));
+            }
+            if self.bytes.len() >= self.room {
+                return Err(io::Error::from(ErrorKind::StorageFull));
+            }
+            match buf {
+                [first, ..] => {
+                    self.bytes.push(*first)?;
+                    Ok(1)
+                }
+                [] => Ok(0),
+            }
+        }
+
+        fn flush(&mut self) -> io::Result<()> {
+            Ok(())
+        }
+    }
+
+    fn sink_with_room(alloc: Global, room: usize) -> OutSink<Slow> {
+        OutSink::of(Slow {
+            bytes: Vec::new(alloc),
+            room,
+            is_interrupted: false,
+        })
+    }
+
+    #[test]
+    fn writes_what_a_slow_writer_takes(rt: HostRuntime) -> Result<(), Fail> {
+        let mut sink = sink_with_room(rt.alloc(), 5);
+        for (piece, want) in [("abc", 3), ("def", 2), ("f", 0)] {
+            assert!(rt; !piece.is_empty());
+            assert_eq!(rt; sink.put(piece.as_bytes()).unwrap_or(0), want);
+        }
+        assert_eq!(rt; sink.writer.bytes.as_slice(), b"abcde".as_slice());
+        assert_eq!(rt; sink.faults, 1);
+        Ok(())
+    }
+}

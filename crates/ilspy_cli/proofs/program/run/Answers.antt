@@ -9,5 +9,5 @@ returns-in-Ok-put_all-clause-means_the_same g c =
     wrote_the_same c.text_means_the_same.ensures _ _ c.in-Ok.answer.status c.in-Ok.answer.text _ c.in-Ok.ensures.due written
 
 pub returns-in-Ok-put_all-clause-exact : goal.returns-in-Ok-put_all-clause-exact
-returns-in-Ok-put_all-clause-exact g c = λ still _ files told status text due.
-    inl (c.one_due.ensures _ files told still _ c.in-Ok.answer.status status c.in-Ok.answer.text text c.in-Ok.ensures.due due).0
+returns-in-Ok-put_all-clause-exact g c = λ still _ files told given status text due.
+    inl (c.one_due.ensures _ files told still given _ c.in-Ok.answer.status status c.in-Ok.answer.text text c.in-Ok.ensures.due due).0
