@@ -96,10 +96,6 @@ mod tests {
     }
 
     impl Read for Slow<'_> {
-        ghost use Rattle.std.specs.Prelude.{Some};
-
-        ghost remaining = { λ file. Some file.left.now };
-
         fn read(&mut self, buf: &mut [u8]) -> io::Result<usize> {
             self.is_interrupted = !self.is_interrupted;
             if self.is_interrupted {
@@ -127,10 +123,9 @@ mod tests {
     impl<'a> Disk for OneFile<'a> {
         type File = Slow<'a>;
 
-        ghost use Rattle.std.specs.Prelude.{Some};
-        ghost use Rattle.ilspy_outside.specs.Fakes.{only};
+        ghost use Rattle.std.specs.Prelude.{None};
 
-        ghost files = { λ disk. Some (only disk.path.now disk.bytes.now) };
+        ghost files = { λ _. None };
 
         fn open(&self, path: &str) -> io::Result<Slow<'a>> {
             if path != self.path {

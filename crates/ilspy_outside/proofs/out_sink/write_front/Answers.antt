@@ -1,5 +1,4 @@
 -- A write takes the piece further, or leaves it where it was.
-use Rattle.std.proofs.Common.{rules}
 use Rattle.std.proofs.lemmas.List.{take_rest}
 use Rattle.std.proofs.KnownBytes.{Appends-kept}
 use Rattle.ilspy_outside.proofs.Writing.{further}
