@@ -1,7 +1,7 @@
 -- The typed lone bodies: a static method of four ints that no type declares, whose result is an int.
 use Rattle.std.specs.Prelude.{◌≡◌, ◌≢◌, ℕ, ◌<◌, ◌≤◌, false, List, [], ◌∷◌, length, All, ℤ}
 use Rattle.std.specs.Prelude.{None, Some}
-use Rattle.std.specs.Int.{FitsSigned, w32}
+use Rattle.std.specs.Prelude.{FitsSigned, w32}
 use Rattle.dc_base.specs.declared.ty.Ty.{Ty}
 use Rattle.dc_base.specs.declared.ty.Core.TheVariants.{Prim}
 use Rattle.dc_base.specs.declared.ty.Prim_.TheVariants.{I4}
