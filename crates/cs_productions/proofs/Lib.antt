@@ -11,3 +11,4 @@ pub mod Deepening
 pub mod DeeperTypes
 pub mod Growing
 pub mod DeeperCalls
+pub mod DeeperPrimaries
