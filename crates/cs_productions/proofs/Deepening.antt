@@ -38,6 +38,10 @@ enters_or {A = A} {g = g} {h = h} first rest m n = record { enters = λ ts e. by
     by_case ts true p e = subst (λ c. left_of (cond c (g.reads ts) (h.reads ts)) < length ts) (sym p) (m.enters ts p)
     by_case ts false p e = subst (λ c. left_of (cond c (g.reads ts) (h.reads ts)) < length ts) (sym p) (n.enters ts (of ts p e))
 
+pub enters_where : {A : Type 0} {g h : Grammar Token A} (first rest : List ℕ) (room : Bool) → room ≡ true → Enters kind first g → Enters kind rest h → Enters kind (first ++ rest) (guarded kind room first g h)
+enters_where first rest true r m n = enters_or first rest m n
+enters_where first rest false r m n = cc
+
 -- what there is room for with more levels, and maybe with fewer
 pub deeper_where : {A : Type 0} {g wide h further : Grammar Token A} (first : List ℕ) (room more : Bool) → more ≡ true → Enters kind first wide → (room ≡ true → Deeper g wide) → Deeper h further → Deeper (guarded kind room first g h) (guarded kind more first wide further)
 deeper_where first true true m n d e = deeper_or kind first (d refl) e

@@ -22,11 +22,11 @@ use Rattle.cs_productions.specs.Inner.{Inner}
 use Rattle.cs_productions.specs.Calls.{postfixes}
 use Rattle.cs_productions.specs.Primaries.{base_call, of_base, global_call, called_path, indexed, behind_path, global_path, global_leaf, of_global, new_object, of_new_object, new_array, with_member, behind_array, of_new_array, of_new, default_of, of_default, checked_of, of_checked, of_simple}
 use Rattle.cs_productions.proofs.Follow.{type_kinds, postfix_follow, AreExact}
-use Rattle.cs_productions.proofs.ExactTokens.{sample, sample_of, global_sample, exact_sign}
+use Rattle.cs_productions.proofs.ExactTokens.{sample, sample_of, global_sample, exact_sign, exact_any_name}
 use Rattle.cs_token.specs.declared.tokens.Lexeme.TheVariants as lexeme
 use Rattle.cs_productions.proofs.ExactTypes.{exact_path, exact_named_type, exact_ranks, exact_ty}
 use Rattle.cs_productions.proofs.ExactCalls.{exact_arguments, exact_called, exact_one_member, exact_one_index, exact_postfixes}
-use Rattle.cs_productions.proofs.ExactPrimaries.{exact_called_path, exact_indexed, exact_of_new_object, exact_with_member, exact_behind_array, exact_of_new_array}
+use Rattle.cs_productions.proofs.ExactPrimaries.{exact_global_path, exact_called_path, exact_indexed, exact_of_new_object, exact_with_member, exact_behind_array, exact_of_new_array}
 use Rattle.cs_productions.proofs.Heights.{AtMost, yields_one, below_arguments, within_called, within_one_member, within_one_index}
 use Rattle.cs_productions.proofs.DeeperTypes.{deeper_path, deeper_named_type, ranked_named_type, RanksAtMost, deeper_ranks, deeper_ty}
 use Rattle.cs_productions.proofs.Growing.{Grows, grows, to, grows_gives, grows_one, grows_sign, grows_place, grows_any_name, grows_then, grows_with, grows_or, grows_where}
@@ -182,3 +182,15 @@ pub enters_of_checked : {inner : Inner} (m : ℕ) → AreExact inner → Enters 
 enters_of_checked m x =
     enters_then (enters_one (kw_checked ∷ kw_unchecked ∷ []) (λ t. t))
     (λ t. then (exact_sign paren refl) refl (λ _. then (x.forms Whole) refl (λ a. then (exact_sign unparen refl) refl (λ _. exact_postfixes m (checked_of t a) x))))
+
+pub enters_of_base : {inner : Inner} (m : ℕ) → AreExact inner → Enters kind (kw_base ∷ []) (of_base m inner)
+enters_of_base m x =
+    enters_then (enters_one (kw_base ∷ []) spot_of)
+    (λ s. then (exact_sign dot refl) refl (λ _. then exact_any_name refl (λ name. then (exact_called m 0 _ _ x) refl (λ a. exact_postfixes m a x))))
+
+pub enters_of_global : {inner : Inner} (m : ℕ) → AreExact inner → Enters kind (global ∷ []) (of_global m inner)
+enters_of_global m x =
+    enters_then (enters_one (global ∷ []) global_leaf) (λ (g : Measured). or (colons ∷ []) refl refl (exact_global_path m g.spot x) (exact_postfixes m g x))
+
+pub enters_of_simple : {inner : Inner} (m : ℕ) → AreExact inner → Enters kind simple_kinds (of_simple m inner)
+enters_of_simple m x = enters_then (enters_one simple_kinds simple_of) (λ a. exact_postfixes m a x)

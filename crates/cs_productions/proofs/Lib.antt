@@ -12,3 +12,5 @@ pub mod DeeperTypes
 pub mod Growing
 pub mod DeeperCalls
 pub mod DeeperPrimaries
+pub mod DeeperOperators
+pub mod DeeperLevels
