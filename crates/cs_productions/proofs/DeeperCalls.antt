@@ -35,7 +35,8 @@ pub record Widens (n m : ℕ) (inner wide : Inner) : Type 0 where
   pub below : AreBelow n inner
   pub forms : 0 < n → (p : Part) → Deeper (inner.forms p) (wide.forms p)
   pub lead : 0 < n → Deeper inner.lead wide.lead
-  pub block : Deeper inner.block wide.block
+  pub block : 0 < inner.blocks → Deeper inner.block wide.block
+  pub blocks : 0 < wide.blocks
   pub some_ranks : 0 < inner.ranks
   pub ranks : inner.ranks < wide.ranks
   pub enters : Enters kind expression_kinds (wide.forms Whole)
@@ -46,6 +47,10 @@ grows_forms z some p = grows (z.forms some p) (z.exact.forms p)
 -- there is room at the height that there is room at with two levels less, and at the next
 pub wider_room : {n m : ℕ} {inner wide : Inner} (h : ℕ) → Widens n m inner wide → h ≤ n + 1 → nat_lt h m ≡ true
 wider_room {m = m} h z l = let more = z.more in lt-ltb h m (omega arith)
+
+-- there is room for a block
+pub block_room : {n m : ℕ} {inner wide : Inner} → Widens n m inner wide → nat_lt 0 wide.blocks ≡ true
+block_room {wide = wide} z = lt-ltb 0 wide.blocks z.blocks
 
 grows_one_arg : {n m : ℕ} {inner wide : Inner} (before : Args) → Widens n m inner wide → 0 < n → Grows (one_arg inner before) (one_arg wide before) arg_kinds whole_follow false
 grows_one_arg before z some = to refl refl (grows_then (grows deeper_way exact_way) refl (λ w. grows_then (grows_forms z some Whole) refl (λ a. grows_gives (with_arg before w a))))

@@ -52,44 +52,50 @@ enters_whole : (inner : Inner) (n : ℕ) → AreExact inner → Enters kind expr
 enters_whole inner n x = enters_then (enters_unary n x) (λ a. exact_conditional (suc n) a x)
 
 -- all levels have the same block and the same brackets
-deeper_block : {block : Grammar Token Block} (wider_block : Grammar Token Block) (more m : ℕ) → Deeper block wider_block → Deeper block (below wider_block more m).block
-deeper_block wider_block more zero d = d
-deeper_block wider_block more (suc m) d = deeper_block wider_block more m d
+deeper_block : {block : Grammar Token Block} (wider_block : Grammar Token Block) (blocks more m : ℕ) → Deeper block wider_block → Deeper block (below wider_block blocks more m).block
+deeper_block wider_block blocks more zero d = d
+deeper_block wider_block blocks more (suc m) d = deeper_block wider_block blocks more m d
 
-more_ranks : (wider_block : Grammar Token Block) (limit more m : ℕ) → limit < more → limit < (below wider_block more m).ranks
-more_ranks wider_block limit more zero l = l
-more_ranks wider_block limit more (suc m) l = more_ranks wider_block limit more m l
+more_ranks : (wider_block : Grammar Token Block) (blocks limit more m : ℕ) → limit < more → limit < (below wider_block blocks more m).ranks
+more_ranks wider_block blocks limit more zero l = l
+more_ranks wider_block blocks limit more (suc m) l = more_ranks wider_block blocks limit more m l
+
+some_blocks : (wider_block : Grammar Token Block) (blocks more m : ℕ) → 0 < blocks → 0 < (below wider_block blocks more m).blocks
+some_blocks wider_block blocks more zero l = l
+some_blocks wider_block blocks more (suc m) l = some_blocks wider_block blocks more m l
 
 -- below as many levels and below two more, or below more than that
-pub widens : {block wider_block : Grammar Token Block} (limit more n m : ℕ) → n + 2 ≤ m → 0 < limit → limit < more → Exact kind wider_block (brace ∷ []) [] false → Deeper block wider_block → Widens n m (below block limit n) (below wider_block more m)
-widens {block = block} {wider_block = wider_block} limit more n zero l some r b d = absurd (omega arith)
-widens {block = block} {wider_block = wider_block} limit more n (suc zero) l some r b d = absurd (omega arith)
-widens {block = block} {wider_block = wider_block} limit more zero (suc (suc m)) l some r b d =
+pub widens : {block wider_block : Grammar Token Block} (blocks more_blocks limit more n m : ℕ) → n + 2 ≤ m → 0 < limit → limit < more → 0 < more_blocks → Exact kind wider_block (brace ∷ []) [] false → (0 < blocks → Deeper block wider_block) → Widens n m (below block blocks limit n) (below wider_block more_blocks more m)
+widens {block = block} {wider_block = wider_block} blocks more_blocks limit more n zero l some r k b d = absurd (omega arith)
+widens {block = block} {wider_block = wider_block} blocks more_blocks limit more n (suc zero) l some r k b d = absurd (omega arith)
+widens {block = block} {wider_block = wider_block} blocks more_blocks limit more zero (suc (suc m)) l some r k b d =
     record {
       more = l;
-      exact = exact_below more (suc (suc m)) b;
-      below = are_below block limit zero;
+      exact = exact_below more_blocks more (suc (suc m)) b;
+      below = are_below block blocks limit zero;
       forms = λ s p. absurd (omega arith);
       lead = λ s. absurd (omega arith);
-      block = deeper_block wider_block more (suc (suc m)) d;
+      block = λ may. deeper_block wider_block more_blocks more (suc (suc m)) (d may);
+      blocks = some_blocks wider_block more_blocks more (suc (suc m)) k;
       some_ranks = some;
-      ranks = more_ranks wider_block limit more (suc (suc m)) r;
-      enters = enters_whole (below wider_block more (suc m)) m (exact_below more (suc m) b);
+      ranks = more_ranks wider_block more_blocks limit more (suc (suc m)) r;
+      enters = enters_whole (below wider_block more_blocks more (suc m)) m (exact_below more_blocks more (suc m) b);
     }
-widens {block = block} {wider_block = wider_block} limit more (suc n) (suc (suc m)) l some r b d =
-    let lower = widens limit more n (suc m) (omega arith) some r b d in
+widens {block = block} {wider_block = wider_block} blocks more_blocks limit more (suc n) (suc (suc m)) l some r k b d =
+    let lower = widens blocks more_blocks limit more n (suc m) (omega arith) some r k b d in
     record {
       more = l;
-      exact = exact_below more (suc (suc m)) b;
-      below = are_below block limit (suc n);
+      exact = exact_below more_blocks more (suc (suc m)) b;
+      below = are_below block blocks limit (suc n);
       forms = λ s p. deeper_forms_at p lower;
       lead = λ s. deeper_lead lower;
       block = lower.block;
+      blocks = lower.blocks;
       some_ranks = lower.some_ranks;
       ranks = lower.ranks;
-      enters = enters_whole (below wider_block more (suc m)) m (exact_below more (suc m) b);
+      enters = enters_whole (below wider_block more_blocks more (suc m)) m (exact_below more_blocks more (suc m) b);
     }
 
 -- expressions of at most this many levels, and of two more or more than that
-pub deeper_within : {block wider_block : Grammar Token Block} (limit more n m : ℕ) (p : Part) → n + 2 ≤ m → 0 < limit → limit < more → Exact kind wider_block (brace ∷ []) [] false → Deeper block wider_block → Deeper ((within block limit n).forms p) ((within wider_block more m).forms p)
-deeper_within limit more n m p l some r b d = deeper_forms_at p (widens limit more n m l some r b d)
+pub deeper_within : {block wider_block : Grammar Token Block} (blocks more_blocks limit more n m : ℕ) (p : Part) → n + 2 ≤ m → 0 < limit → limit < more → 0 < more_blocks → Exact kind wider_block (brace ∷ []) [] false → (0 < blocks → Deeper block wider_block) → Deeper ((within block blocks limit n).forms p) ((within wider_block more_blocks more m).forms p)
+deeper_within blocks more_blocks limit more n m p l some r k b d = deeper_forms_at p (widens blocks more_blocks limit more n m l some r k b d)

@@ -24,47 +24,63 @@ use Rattle.cs_grammar.proofs.Limited.{guard}
 use Rattle.cs_grammar.proofs.Turns.{repeat}
 use Rattle.cs_grammar.proofs.Deeper.{yields_any, yields_gives, enters_one, enters_then, deeper_gives, deeper_one, deeper_then, deeper_or}
 use Rattle.cs_productions.specs.Kinds.{names, paren, unparen, bracket, unbracket, dot, colon, colons, question, arrow, comma, global, keyword_types, operand_kinds, expression_kinds, simple_kinds, counted_kinds, unary_operators, multiplicative_operators, additive_operators, shift_operators, comparisons, type_tests, relational_operators, equality_operators, times, plus, shift_left, less, equal, amp, caret, bar, both, either_one, bang, kw_is, kw_ref, kw_out, kw_new, kw_default, kw_checked, kw_unchecked, kw_base}
-use Rattle.cs_productions.specs.Tokens.{kind, sign, spot_of, leaf}
+use Rattle.cs_productions.specs.Tokens.{kind, sign, spot_of, name_of, way_of, leaf}
 use Rattle.cs_productions.specs.Types.{path, global_type, array_of, ranks, param_of, ty}
 use Rattle.cs_productions.specs.Inner.{Inner}
 use Rattle.cs_productions.specs.Calls.{postfixes, index_of}
-use Rattle.cs_productions.specs.Primaries.{called_path, global_leaf}
-use Rattle.cs_productions.specs.Operators.{in_parentheses, lambda_of, lambda, lambda_behind, lambda_from_way, lambda_from_type, cast_of, casting, cast_to, path_of, closed_form, closed, led_in, behind_type, keyword_in, plain_in, behind_paren, of_paren, of_counted, of_plain, plain_operand, operand, signed_of, signed, unary, plain_unary, binary_form, one_binary, binaries, test_form, one_test, one_relation, relations, multiplicative, additive, shift, relational, equality, and, exclusive_or, inclusive_or, conditional_and, conditional_or, conditional_of, choosing, chosen, conditional, form_led, type_led, rest_of_form, named_led, array_led, index_led, bracket_led, called_led, path_led, name_led, lead}
+use Rattle.cs_productions.specs.Primaries.{path_alone, called_path, global_leaf}
+use Rattle.cs_productions.specs.Operators.{in_parentheses, lambda_of, lambda, lambda_behind, lambda_from_way, lambda_from_type, cast_of, casting, cast_to, path_of, closed_form, closed, led_in, behind_type, keyword_in, plain_in, lambda_in, form_in, behind_paren, of_paren, of_counted, of_plain, plain_operand, operand, signed_of, signed, unary, plain_unary, binary_form, one_binary, binaries, test_form, one_test, one_relation, relations, multiplicative, additive, shift, relational, equality, and, exclusive_or, inclusive_or, conditional_and, conditional_or, conditional_of, choosing, chosen, conditional, form_led, type_led, rest_of_form, named_led, array_led, index_led, bracket_led, called_led, unnamed_led, path_led, name_led, lead}
 use Rattle.cs_productions.proofs.Follow.{follow_of, kinds_of, type_kinds, plain_kinds, plain_operand_kinds, postfix_follow, operand_follow, multiplicative_follow, additive_follow, shift_follow, relational_follow, equality_follow, and_follow, exclusive_or_follow, inclusive_or_follow, conditional_and_follow, conditional_or_follow, whole_follow, multiplicative_kinds, additive_kinds, shift_kinds, relational_kinds, equality_kinds, and_kinds, exclusive_or_kinds, inclusive_or_kinds, conditional_and_kinds, conditional_or_kinds, operator_kinds, AreExact}
 use Rattle.cs_productions.proofs.ExactTokens.{sample_of, global_sample, exact_sign, exact_place, exact_any_name}
 use Rattle.cs_productions.proofs.ExactTypes.{exact_path, exact_ranks, exact_type_of_keyword, exact_ty, exact_passed_param, exact_more_params}
 use Rattle.cs_productions.proofs.ExactCalls.{exact_postfixes}
 use Rattle.cs_productions.proofs.ExactPrimaries.{exact_called_path, exact_of_new, exact_of_default, exact_of_checked}
-use Rattle.cs_productions.proofs.ExactOperators.{exact_lambda, exact_closed, exact_behind_paren, exact_of_counted, exact_plain_operand, exact_signed, exact_one_test, exact_one_comparison, exact_one_relational, exact_one_multiplicative, exact_one_additive, exact_one_shift, exact_one_equality, exact_one_and, exact_one_exclusive_or, exact_one_inclusive_or, exact_one_conditional_and, exact_one_conditional_or, exact_multiplicative, exact_additive, exact_shift, exact_relational, exact_equality, exact_and, exact_exclusive_or, exact_inclusive_or, exact_conditional_and, exact_conditional_or, exact_choosing, exact_chosen, exact_conditional, exact_rest_of_form, exact_index_led, exact_array_led, exact_path_led, exact_name_led}
+use Rattle.cs_productions.proofs.ExactOperators.{exact_lambda_behind, exact_lambda_in, exact_lambda_from_type, exact_lambda, exact_closed, exact_behind_paren, exact_of_counted, exact_plain_operand, exact_signed, exact_one_test, exact_one_comparison, exact_one_relational, exact_one_multiplicative, exact_one_additive, exact_one_shift, exact_one_equality, exact_one_and, exact_one_exclusive_or, exact_one_inclusive_or, exact_one_conditional_and, exact_one_conditional_or, exact_multiplicative, exact_additive, exact_shift, exact_relational, exact_equality, exact_and, exact_exclusive_or, exact_inclusive_or, exact_conditional_and, exact_conditional_or, exact_choosing, exact_chosen, exact_conditional, exact_rest_of_form, exact_index_led, exact_array_led, exact_path_led, exact_name_led}
 use Rattle.cs_productions.proofs.Heights.{yields_where, AtMost, Below, LeadWithin, within_postfixes, within_called_path, within_one_binary, within_binaries, within_one_relation, within_relations, within_multiplicative, within_additive, within_shift, within_relational, within_equality, within_and, within_exclusive_or, within_inclusive_or, within_conditional_and, within_conditional_or, within_conditional}
 use Rattle.cs_productions.proofs.Deepening.{enters_narrow, enters_or, enters_where, deeper_rounds}
 use Rattle.cs_productions.proofs.DeeperTypes.{deeper_ranks, deeper_type_of_keyword, deeper_ty, deeper_passed_param, deeper_more_params, ranked_named_type, RanksAtMost}
 use Rattle.cs_productions.proofs.Growing.{Grows, grows, to, grows_gives, grows_one, grows_sign, grows_place, grows_any_name, grows_then, grows_with, grows_or, grows_where}
-use Rattle.cs_productions.proofs.DeeperCalls.{Widens, grows_forms, wider_room, deeper_postfixes, grows_postfixes}
+use Rattle.cs_productions.proofs.DeeperCalls.{Widens, grows_forms, wider_room, block_room, deeper_postfixes, grows_postfixes}
 use Rattle.cs_productions.proofs.DeeperPrimaries.{grows_path, grows_of_base, grows_called_path, enters_called_path, grows_global_leaf, leaf_within, grows_of_global, grows_of_new, grows_of_default, grows_of_checked, grows_of_simple, enters_of_base, enters_of_global, enters_of_simple, enters_of_new, enters_of_default, enters_of_checked}
 
 -- lambdas
 
-grows_lambda : {n m : ℕ} {inner wide : Inner} (s : Spot) (params : List Param) → Widens n m inner wide → 0 < n → Grows (lambda n inner s params) (lambda m wide s params) (unparen ∷ []) postfix_follow false
-grows_lambda s params z some =
+grows_lambda : {n m : ℕ} {inner wide : Inner} (s : Spot) (params : List Param) → Widens n m inner wide → 0 < n → 0 < inner.blocks → Grows (lambda n inner s params) (lambda m wide s params) (unparen ∷ []) postfix_follow false
+grows_lambda s params z some may =
     to refl refl
     (grows_then (grows_sign unparen refl) refl
-    (λ _. grows_then (grows_sign arrow refl) refl (λ _. grows_then (grows z.block z.exact.block) refl (λ block. grows_postfixes (lambda_of s params block) z (omega arith)))))
+    (λ _. grows_then (grows_sign arrow refl) refl (λ _. grows_then (grows (z.block may) z.exact.block) refl (λ block. grows_postfixes (lambda_of s params block) z (omega arith)))))
 
-grows_lambda_behind : {n m : ℕ} {inner wide : Inner} (s : Spot) (first : Param) → Widens n m inner wide → 0 < n → Grows (lambda_behind n inner s first) (lambda_behind m wide s first) (comma ∷ unparen ∷ []) postfix_follow false
-grows_lambda_behind {inner = inner} {wide = wide} s first z some =
+grows_lambda_behind : {n m : ℕ} {inner wide : Inner} (s : Spot) (first : Param) → Widens n m inner wide → 0 < n → 0 < inner.blocks → Grows (lambda_behind n inner s first) (lambda_behind m wide s first) (comma ∷ unparen ∷ []) postfix_follow false
+grows_lambda_behind {inner = inner} {wide = wide} s first z some may =
     to refl refl
     (grows_then (grows (deeper_more_params inner.ranks wide.ranks (first ∷ []) z.ranks) (exact_more_params wide.ranks (first ∷ []))) refl
-    (λ params. grows_lambda s params z some))
+    (λ params. grows_lambda s params z some may))
 
-grows_lambda_from_way : {n m : ℕ} {inner wide : Inner} (s : Spot) → Widens n m inner wide → 0 < n → Grows (lambda_from_way n inner s) (lambda_from_way m wide s) (kw_ref ∷ kw_out ∷ []) postfix_follow false
-grows_lambda_from_way {inner = inner} {wide = wide} s z some =
+grows_lambda_from_way : {n m : ℕ} {inner wide : Inner} (s : Spot) → Widens n m inner wide → 0 < n → 0 < inner.blocks → Grows (lambda_from_way n inner s) (lambda_from_way m wide s) (kw_ref ∷ kw_out ∷ []) postfix_follow false
+grows_lambda_from_way {inner = inner} {wide = wide} s z some may =
     to refl refl
-    (grows_then (grows (deeper_passed_param inner.ranks wide.ranks z.ranks) (exact_passed_param wide.ranks)) refl (λ first. grows_lambda_behind s first z some))
+    (grows_then (grows (deeper_passed_param inner.ranks wide.ranks z.ranks) (exact_passed_param wide.ranks)) refl (λ first. grows_lambda_behind s first z some may))
 
-grows_lambda_from_type : {n m : ℕ} {inner wide : Inner} (s : Spot) (t : TypeForm) → Widens n m inner wide → 0 < n → Grows (lambda_from_type n inner s t) (lambda_from_type m wide s t) names postfix_follow false
-grows_lambda_from_type s t z some =
-    to refl refl (grows_then grows_any_name refl (λ name. grows_lambda_behind s (param_of passed.Value t name) z some))
+grows_lambda_from_type : {n m : ℕ} {inner wide : Inner} (s : Spot) (t : TypeForm) → Widens n m inner wide → 0 < n → 0 < inner.blocks → Grows (lambda_from_type n inner s t) (lambda_from_type m wide s t) names postfix_follow false
+grows_lambda_from_type s t z some may =
+    to refl refl (grows_then grows_any_name refl (λ name. grows_lambda_behind s (param_of passed.Value t name) z some may))
+
+enters_lambda_from_type : {inner : Inner} (m : ℕ) (s : Spot) (t : TypeForm) → AreExact inner → Enters kind names (lambda_from_type m inner s t)
+enters_lambda_from_type m s t x = enters_then (enters_one names name_of) (λ name. exact_lambda_behind m s (param_of passed.Value t name) x)
+
+grows_lambda_in : {n m : ℕ} {inner wide : Inner} (s : Spot) → Widens n m inner wide → 0 < n → 0 < inner.blocks → Grows (lambda_in n inner s) (lambda_in m wide s) (unparen ∷ kw_ref ∷ kw_out ∷ []) postfix_follow false
+grows_lambda_in s z some may = to refl refl (grows_or (unparen ∷ []) refl refl (grows_lambda s [] z some may) (grows_lambda_from_way s z some may))
+
+enters_lambda_in : {inner : Inner} (m : ℕ) (s : Spot) → AreExact inner → Enters kind (unparen ∷ kw_ref ∷ kw_out ∷ []) (lambda_in m inner s)
+enters_lambda_in {inner = inner} m s x =
+    enters_or (unparen ∷ []) (kw_ref ∷ kw_out ∷ [])
+    (enters_then (enters_one (unparen ∷ []) (λ _. tt))
+    (λ _. then (exact_sign arrow refl) refl (λ _. then x.block refl (λ block. exact_postfixes m (lambda_of s [] block) x))))
+    (enters_then
+    (enters_then (enters_one (kw_ref ∷ kw_out ∷ []) (λ t. way_of (kind t)))
+    (λ w. then (exact_ty inner.ranks) refl (λ t. then exact_any_name refl (λ name. exact_gives (param_of w t name)))))
+    (λ first. exact_lambda_behind m s first x))
 
 -- casts and parentheses
 
@@ -79,10 +95,10 @@ grows_closed_form s a None z room = to refl refl (grows_postfixes (in_parenthese
 grows_closed_form s a (Some t) z room =
     to refl refl (grows_or operand_kinds refl refl (grows_casting s t z (omega arith)) (grows_postfixes (in_parentheses s a) z (omega arith)))
 
-grows_closed : {n m : ℕ} {inner wide : Inner} (s : Spot) (l : Lead) → Widens n m inner wide → 0 < n → LeadWithin (Below n) l → Grows (closed n inner s l) (closed m wide s l) (comma ∷ unparen ∷ []) operand_follow false
+grows_closed : {n m : ℕ} {inner wide : Inner} (s : Spot) (l : Lead) → Widens n m inner wide → 0 < n → LeadWithin inner.blocks (Below n) l → Grows (closed n inner s l) (closed m wide s l) (comma ∷ unparen ∷ []) operand_follow false
 grows_closed s (led.Form a) z some room = to refl refl (grows_then (grows_sign unparen refl) refl (λ _. grows_closed_form s a (path_of a.form) z room))
 grows_closed s (led.Type t) z some room = to refl refl (grows_cast_to s t z some)
-grows_closed s (led.Named t name) z some room = to refl refl (grows_lambda_behind s (param_of passed.Value t name) z some)
+grows_closed s (led.Named t name) z some may = to refl refl (grows_lambda_behind s (param_of passed.Value t name) z some may)
 
 grows_led_in : {n m : ℕ} {inner wide : Inner} (s : Spot) → Widens n m inner wide → 0 < n → Grows (led_in n inner s) (led_in m wide s) (global ∷ []) operand_follow false
 grows_led_in {m = m} s z some =
@@ -90,7 +106,10 @@ grows_led_in {m = m} s z some =
     (grows_with (grows (z.lead some) z.exact.lead) (z.below.lead some) refl (λ l p. (grows_closed s l z some p).deeper) (λ l. exact_closed m s l z.exact))
 
 grows_behind_type : {n m : ℕ} {inner wide : Inner} (s : Spot) (t : TypeForm) → Widens n m inner wide → 0 < n → Grows (behind_type n inner s t) (behind_type m wide s t) (unparen ∷ names) operand_follow false
-grows_behind_type s t z some = to refl refl (grows_or names refl refl (grows_lambda_from_type s t z some) (grows_cast_to s t z some))
+grows_behind_type {m = m} {inner = inner} {wide = wide} s t z some =
+    to refl refl
+    (grows_where names (nat_lt 0 inner.blocks) (nat_lt 0 wide.blocks) refl refl (block_room z) (enters_lambda_from_type m s t z.exact)
+    (λ r. (grows_lambda_from_type s t z some (ltb-true 0 inner.blocks r)).deeper) (exact_lambda_from_type m s t z.exact) (grows_cast_to s t z some))
 
 grows_keyword_in : {n m : ℕ} {inner wide : Inner} (s : Spot) → Widens n m inner wide → 0 < n → Grows (keyword_in n inner s) (keyword_in m wide s) keyword_types operand_follow false
 grows_keyword_in {inner = inner} {wide = wide} s z some =
@@ -109,12 +128,16 @@ grows_plain_in {n = n} {m = m} {inner = inner} {wide = wide} s z some =
 grows_of_paren : {n m : ℕ} {inner wide : Inner} → Widens n m inner wide → 0 < n → Grows (of_paren n inner) (of_paren m wide) (paren ∷ []) operand_follow false
 grows_of_paren {n = n} {m = m} {inner = inner} {wide = wide} z some = to refl refl (grows_then (grows_place paren refl) refl (λ s. behind s))
   where
+    grows_form_in : (s : Spot) → Grows (form_in n inner s) (form_in m wide s) (type_kinds ++ plain_kinds) operand_follow false
+    grows_form_in s =
+        to refl refl
+        (grows_or keyword_types refl refl (grows_keyword_in s z some) (grows_or (global ∷ []) refl refl (grows_led_in s z some) (grows_plain_in s z some)))
+
     behind : (s : Spot) → Grows (behind_paren n inner s) (behind_paren m wide s) (unparen ∷ kw_ref ∷ kw_out ∷ type_kinds ++ plain_kinds) operand_follow false
     behind s =
         to refl refl
-        (grows_or (unparen ∷ []) refl refl (grows_lambda s [] z some)
-        (grows_or (kw_ref ∷ kw_out ∷ []) refl refl (grows_lambda_from_way s z some)
-        (grows_or keyword_types refl refl (grows_keyword_in s z some) (grows_or (global ∷ []) refl refl (grows_led_in s z some) (grows_plain_in s z some)))))
+        (grows_where (unparen ∷ kw_ref ∷ kw_out ∷ []) (nat_lt 0 inner.blocks) (nat_lt 0 wide.blocks) refl refl (block_room z) (enters_lambda_in m s z.exact)
+        (λ r. (grows_lambda_in s z some (ltb-true 0 inner.blocks r)).deeper) (exact_lambda_in m s z.exact) (grows_form_in s))
 
 -- operands and unary operators
 
@@ -354,12 +377,16 @@ grows_rest_of_form {m = m} a z p =
 grows_named_led : (t : TypeForm) → Grows (named_led t) (named_led t) names [] false
 grows_named_led t = to refl refl (grows_then grows_any_name refl (λ name. grows_gives (led.Named t name)))
 
-grows_array_led : (limit more : ℕ) (t : TypeForm) → limit < more → t.ranks + 1 ≤ limit → Grows (array_led limit t) (array_led more t) (unbracket ∷ []) (bracket ∷ names) false
-grows_array_led limit more t l p =
+enters_named_led : (t : TypeForm) → Enters kind names (named_led t)
+enters_named_led t = enters_then (enters_one names name_of) (λ name. exact_gives (led.Named t name))
+
+grows_array_led : {n m : ℕ} {inner wide : Inner} (t : TypeForm) → Widens n m inner wide → t.ranks + 1 ≤ inner.ranks → Grows (array_led inner.blocks inner.ranks t) (array_led wide.blocks wide.ranks t) (unbracket ∷ []) (bracket ∷ names) false
+grows_array_led {inner = inner} {wide = wide} t z p =
     to refl refl
     (grows_then (grows_sign unbracket refl) refl
-    (λ _. grows_then (grows (deeper_ranks limit more (array_of t) l p) (exact_ranks more (array_of t))) refl
-    (λ u. grows_or names refl refl (grows_named_led u) (grows_gives (type_led u)))))
+    (λ _. grows_then (grows (deeper_ranks inner.ranks wide.ranks (array_of t) z.ranks p) (exact_ranks wide.ranks (array_of t))) refl
+    (λ u. grows_where names (nat_lt 0 inner.blocks) (nat_lt 0 wide.blocks) refl refl (block_room z) (enters_named_led u) (λ r. (grows_named_led u).deeper) (grows_named_led u).exact
+    (grows_gives (type_led u)))))
 
 grows_behind_index : {n m : ℕ} {inner wide : Inner} (a : Measured) → Widens n m inner wide → AtMost n a → Grows (do _ ← sign unbracket; b ← postfixes n inner a; rest_of_form n inner b) (do _ ← sign unbracket; b ← postfixes m wide a; rest_of_form m wide b) (unbracket ∷ []) whole_follow false
 grows_behind_index {m = m} a z p =
@@ -380,17 +407,17 @@ enters_index_led {m = m} a z =
 
 grows_bracket_led : {n m : ℕ} {inner wide : Inner} (s : Spot) (path_names : List (List ℕ)) → Widens n m inner wide → Grows (bracket_led n inner s path_names) (bracket_led m wide s path_names) (bracket ∷ []) whole_follow false
 grows_bracket_led {n = n} {m = m} {inner = inner} {wide = wide} s path_names z =
-    let a = leaf (form.Global s path_names) s in
+    let a = path_alone s path_names in
     let some_ranks = z.some_ranks in
     to refl refl
     (grows_then (grows_sign bracket refl) refl
     (λ _. grows_where expression_kinds (nat_lt 0 n) (nat_lt 0 m) refl refl (wider_room 0 z (omega arith)) (enters_index_led a z)
     (λ r. (grows_index_led a z (ltb-true 0 n r)).deeper) (exact_index_led m a z.exact)
-    (grows_array_led inner.ranks wide.ranks (global_type s path_names) z.ranks (omega arith))))
+    (grows_array_led (global_type s path_names) z (omega arith))))
 
 grows_called_led : {n m : ℕ} {inner wide : Inner} (s : Spot) (path_names : List (List ℕ)) → Widens n m inner wide → Grows (called_led n inner s path_names) (called_led m wide s path_names) (paren ∷ operator_kinds) whole_follow true
 grows_called_led {n = n} {m = m} s path_names z =
-    let a = leaf (form.Global s path_names) s in
+    let a = path_alone s path_names in
     to refl refl
     (grows_with
     (grows_where (paren ∷ []) (nat_lt 0 n) (nat_lt 0 m) refl refl (wider_room 0 z (omega arith)) (enters_called_path m s path_names z.exact)
@@ -399,11 +426,12 @@ grows_called_led {n = n} {m = m} s path_names z =
     refl (λ b p. (grows_rest_of_form b z p).deeper) (λ b. exact_rest_of_form m b z.exact))
 
 grows_path_led : {n m : ℕ} {inner wide : Inner} (s : Spot) → Widens n m inner wide → Grows (path_led n inner s) (path_led m wide s) (colons ∷ []) whole_follow false
-grows_path_led s z =
+grows_path_led {inner = inner} {wide = wide} s z =
     to refl refl
     (grows_then (grows_sign colons refl) refl
     (λ _. grows_then grows_path refl
-    (λ path_names. grows_or names refl refl (grows_named_led (global_type s path_names))
+    (λ path_names. grows_where names (nat_lt 0 inner.blocks) (nat_lt 0 wide.blocks) refl refl (block_room z) (enters_named_led (global_type s path_names))
+    (λ r. (grows_named_led (global_type s path_names)).deeper) (grows_named_led (global_type s path_names)).exact
     (grows_or (bracket ∷ []) refl refl (grows_bracket_led s path_names z) (grows_called_led s path_names z)))))
 
 grows_name_led : {n m : ℕ} {inner wide : Inner} (g : Measured) → Widens n m inner wide → AtMost n g → Grows (name_led n inner g) (name_led m wide g) (dot ∷ bracket ∷ operator_kinds) whole_follow true

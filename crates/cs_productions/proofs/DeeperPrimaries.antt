@@ -20,7 +20,7 @@ use Rattle.cs_productions.specs.Tokens.{kind, sign, spot_of, leaf, simple, simpl
 use Rattle.cs_productions.specs.Types.{path, ranks}
 use Rattle.cs_productions.specs.Inner.{Inner}
 use Rattle.cs_productions.specs.Calls.{postfixes}
-use Rattle.cs_productions.specs.Primaries.{base_call, of_base, global_call, called_path, indexed, behind_path, global_path, global_leaf, of_global, new_object, of_new_object, new_array, with_member, behind_array, of_new_array, of_new, default_of, of_default, checked_of, of_checked, of_simple}
+use Rattle.cs_productions.specs.Primaries.{base_call, of_base, global_call, path_alone, called_path, indexed, behind_path, global_path, global_leaf, of_global, new_object, of_new_object, new_array, with_member, behind_array, of_new_array, of_new, default_of, of_default, checked_of, of_checked, of_simple}
 use Rattle.cs_productions.proofs.Follow.{type_kinds, postfix_follow, AreExact}
 use Rattle.cs_productions.proofs.ExactTokens.{sample, sample_of, global_sample, exact_sign, exact_any_name}
 use Rattle.cs_token.specs.declared.tokens.Lexeme.TheVariants as lexeme
@@ -64,7 +64,7 @@ enters_indexed m a x = enters_then (enters_one_index a x) (λ b. exact_postfixes
 
 grows_behind_path : {n m : ℕ} {inner wide : Inner} (s : Spot) (path_names : List (List ℕ)) → Widens n m inner wide → Grows (behind_path n inner s path_names) (behind_path m wide s path_names) (paren ∷ bracket ∷ []) postfix_follow true
 grows_behind_path {n = n} {m = m} s path_names z =
-    let a = leaf (form.Global s path_names) s in
+    let a = path_alone s path_names in
     to refl refl
     (grows_where (paren ∷ []) (nat_lt 0 n) (nat_lt 0 m) refl refl (wider_room 0 z (omega arith)) (enters_called_path m s path_names z.exact)
     (λ r. (grows_called_path s path_names z (ltb-true 0 n r)).deeper) (exact_called_path m s path_names z.exact)

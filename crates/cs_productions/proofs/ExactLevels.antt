@@ -55,18 +55,18 @@ exact_alone part.ConditionalAnd = wider refl refl exact_name_alone
 exact_alone part.Whole = wider refl refl exact_name_alone
 exact_alone part.Plain = wider refl refl exact_name_alone
 
-exact_lowest : {block : Grammar Token Block} (ranks : ℕ) → Exact kind block (brace ∷ []) [] false → AreExact (lowest block ranks)
-exact_lowest ranks b =
+exact_lowest : {block : Grammar Token Block} (blocks ranks : ℕ) → Exact kind block (brace ∷ []) [] false → AreExact (lowest block blocks ranks)
+exact_lowest blocks ranks b =
     record {
       forms = exact_alone;
       lead = wider refl refl (then (exact_one (global ∷ []) global_leaf global_sample refl) refl (λ g. exact_gives _));
       block = b;
     }
 
-pub exact_below : {block : Grammar Token Block} (ranks n : ℕ) → Exact kind block (brace ∷ []) [] false → AreExact (below block ranks n)
-exact_below ranks zero b = exact_lowest ranks b
-exact_below ranks (suc n) b = exact_at n (exact_below ranks n b)
+pub exact_below : {block : Grammar Token Block} (blocks ranks n : ℕ) → Exact kind block (brace ∷ []) [] false → AreExact (below block blocks ranks n)
+exact_below blocks ranks zero b = exact_lowest blocks ranks b
+exact_below blocks ranks (suc n) b = exact_at n (exact_below blocks ranks n b)
 
 -- the law of the expressions of at most this many levels
-pub exact_within : {block : Grammar Token Block} (ranks n : ℕ) → Exact kind block (brace ∷ []) [] false → AreExact (within block ranks n)
-exact_within ranks n b = exact_at n (exact_below ranks n b)
+pub exact_within : {block : Grammar Token Block} (blocks ranks n : ℕ) → Exact kind block (brace ∷ []) [] false → AreExact (within block blocks ranks n)
+exact_within blocks ranks n b = exact_at n (exact_below blocks ranks n b)

@@ -19,8 +19,8 @@ use Rattle.cs_productions.specs.Kinds.{names, paren, unparen, bracket, unbracket
 use Rattle.cs_productions.specs.Tokens.{kind}
 use Rattle.cs_productions.specs.Types.{global_type}
 use Rattle.cs_productions.specs.Inner.{Inner}
-use Rattle.cs_productions.specs.Primaries.{global_leaf}
-use Rattle.cs_productions.specs.Operators.{lambda, lambda_behind, lambda_from_way, lambda_from_type, casting, cast_to, path_of, closed_form, closed, led_in, behind_type, keyword_in, plain_in, behind_paren, of_paren, of_counted, of_plain, plain_operand, operand, signed, unary, plain_unary, one_binary, binaries, one_test, one_relation, relations, multiplicative, additive, shift, relational, equality, and, exclusive_or, inclusive_or, conditional_and, conditional_or, choosing, chosen, conditional, rest_of_form, named_led, array_led, index_led, bracket_led, called_led, path_led, name_led, lead}
+use Rattle.cs_productions.specs.Primaries.{path_alone, global_leaf}
+use Rattle.cs_productions.specs.Operators.{lambda, lambda_behind, lambda_from_way, lambda_from_type, casting, cast_to, path_of, closed_form, closed, led_in, behind_type, keyword_in, plain_in, lambda_in, form_in, behind_paren, of_paren, of_counted, of_plain, plain_operand, operand, signed, unary, plain_unary, one_binary, binaries, one_test, one_relation, relations, multiplicative, additive, shift, relational, equality, and, exclusive_or, inclusive_or, conditional_and, conditional_or, choosing, chosen, conditional, rest_of_form, named_led, array_led, index_led, bracket_led, called_led, unnamed_led, path_led, name_led, lead}
 use Rattle.cs_productions.proofs.Follow.{type_kinds, plain_kinds, plain_operand_kinds, postfix_follow, operand_follow, multiplicative_follow, additive_follow, shift_follow, relational_follow, equality_follow, and_follow, exclusive_or_follow, inclusive_or_follow, conditional_and_follow, conditional_or_follow, whole_follow, multiplicative_kinds, additive_kinds, shift_kinds, relational_kinds, equality_kinds, and_kinds, exclusive_or_kinds, inclusive_or_kinds, conditional_and_kinds, conditional_or_kinds, operator_kinds, AreExact}
 use Rattle.cs_productions.proofs.ExactTokens.{sample_of, global_sample, exact_sign, exact_place, exact_any_name}
 use Rattle.cs_productions.proofs.ExactTypes.{exact_path, exact_ranks, exact_type_of_keyword, exact_ty, exact_passed_param, exact_more_params}
@@ -66,7 +66,7 @@ pub exact_led_in : {inner : Inner} (n : ℕ) (s : Spot) → AreExact inner → E
 exact_led_in n s x = wider refl refl (then x.lead refl (λ l. exact_closed n s l x))
 
 pub exact_behind_type : {inner : Inner} (n : ℕ) (s : Spot) (t : TypeForm) → AreExact inner → Exact kind (behind_type n inner s t) (unparen ∷ names) operand_follow false
-exact_behind_type n s t x = wider refl refl (or names refl refl (exact_lambda_from_type n s t x) (exact_cast_to s t x))
+exact_behind_type {inner = inner} n s t x = wider refl refl (guard names (nat_lt 0 inner.blocks) refl refl (exact_lambda_from_type n s t x) (exact_cast_to s t x))
 
 pub exact_keyword_in : {inner : Inner} (n : ℕ) (s : Spot) → AreExact inner → Exact kind (keyword_in n inner s) keyword_types operand_follow false
 exact_keyword_in {inner = inner} n s x = wider refl refl (then (exact_type_of_keyword inner.ranks) refl (λ t. exact_behind_type n s t x))
@@ -74,16 +74,20 @@ exact_keyword_in {inner = inner} n s x = wider refl refl (then (exact_type_of_ke
 pub exact_plain_in : {inner : Inner} (n : ℕ) (s : Spot) → AreExact inner → Exact kind (plain_in n inner s) plain_kinds operand_follow false
 exact_plain_in n s x = wider refl refl (then (x.forms part.Plain) refl (λ a. then (exact_sign unparen refl) refl (λ _. exact_postfixes n _ x)))
 
+pub exact_lambda_in : {inner : Inner} (n : ℕ) (s : Spot) → AreExact inner → Exact kind (lambda_in n inner s) (unparen ∷ kw_ref ∷ kw_out ∷ []) postfix_follow false
+exact_lambda_in n s x = wider refl refl (or (unparen ∷ []) refl refl (exact_lambda n s [] x) (exact_lambda_from_way n s x))
+
+pub exact_form_in : {inner : Inner} (n : ℕ) (s : Spot) → AreExact inner → Exact kind (form_in n inner s) (type_kinds ++ plain_kinds) operand_follow false
+exact_form_in n s x =
+    wider refl refl (or keyword_types refl refl (exact_keyword_in n s x) (or (global ∷ []) refl refl (exact_led_in n s x) (exact_plain_in n s x)))
+
 -- what may stand behind "("
 abbrev inside_kinds : List ℕ
 inside_kinds = unparen ∷ kw_ref ∷ kw_out ∷ type_kinds ++ plain_kinds
 
 pub exact_behind_paren : {inner : Inner} (n : ℕ) (s : Spot) → AreExact inner → Exact kind (behind_paren n inner s) inside_kinds operand_follow false
-exact_behind_paren n s x =
-    wider refl refl
-    (or (unparen ∷ []) refl refl (exact_lambda n s [] x)
-    (or (kw_ref ∷ kw_out ∷ []) refl refl (exact_lambda_from_way n s x)
-    (or keyword_types refl refl (exact_keyword_in n s x) (or (global ∷ []) refl refl (exact_led_in n s x) (exact_plain_in n s x)))))
+exact_behind_paren {inner = inner} n s x =
+    wider refl refl (guard (unparen ∷ kw_ref ∷ kw_out ∷ []) (nat_lt 0 inner.blocks) refl refl (exact_lambda_in n s x) (exact_form_in n s x))
 
 pub exact_of_paren : {inner : Inner} (n : ℕ) → AreExact inner → Exact kind (of_paren n inner) (paren ∷ []) operand_follow false
 exact_of_paren n x = wider refl refl (then (exact_place paren refl) refl (λ s. exact_behind_paren n s x))
@@ -225,10 +229,10 @@ exact_rest_of_form n a x = wider refl refl (then (exact_conditional n a x) refl 
 pub exact_named_led : (t : TypeForm) → Exact kind (named_led t) names [] false
 exact_named_led t = wider refl refl (then exact_any_name refl (λ name. exact_gives _))
 
-pub exact_array_led : (limit : ℕ) (t : TypeForm) → Exact kind (array_led limit t) (unbracket ∷ []) (bracket ∷ names) false
-exact_array_led limit t =
+pub exact_array_led : (blocks limit : ℕ) (t : TypeForm) → Exact kind (array_led blocks limit t) (unbracket ∷ []) (bracket ∷ names) false
+exact_array_led blocks limit t =
     wider refl refl
-    (then (exact_sign unbracket refl) refl (λ _. then (exact_ranks limit _) refl (λ u. or names refl refl (exact_named_led u) (exact_gives _))))
+    (then (exact_sign unbracket refl) refl (λ _. then (exact_ranks limit _) refl (λ u. guard names (nat_lt 0 blocks) refl refl (exact_named_led u) (exact_gives _))))
 
 pub exact_index_led : {inner : Inner} (n : ℕ) (a : Measured) → AreExact inner → Exact kind (index_led n inner a) expression_kinds whole_follow false
 exact_index_led n a x =
@@ -239,19 +243,22 @@ exact_index_led n a x =
 pub exact_bracket_led : {inner : Inner} (n : ℕ) (s : Spot) (path_names : List (List ℕ)) → AreExact inner → Exact kind (bracket_led n inner s path_names) (bracket ∷ []) whole_follow false
 exact_bracket_led {inner = inner} n s path_names x =
     wider refl refl
-    (then (exact_sign bracket refl) refl (λ _. guard expression_kinds (nat_lt 0 n) refl refl (exact_index_led n _ x) (exact_array_led inner.ranks (global_type s path_names))))
+    (then (exact_sign bracket refl) refl (λ _. guard expression_kinds (nat_lt 0 n) refl refl (exact_index_led n (path_alone s path_names) x) (exact_array_led inner.blocks inner.ranks (global_type s path_names))))
 
 pub exact_called_led : {inner : Inner} (n : ℕ) (s : Spot) (path_names : List (List ℕ)) → AreExact inner → Exact kind (called_led n inner s path_names) (paren ∷ operator_kinds) whole_follow true
 exact_called_led n s path_names x =
     wider refl refl
     (then (guard (paren ∷ []) (nat_lt 0 n) refl refl (exact_called_path n s path_names x) (exact_gives _)) refl (λ a. exact_rest_of_form n a x))
 
+pub exact_unnamed_led : {inner : Inner} (n : ℕ) (s : Spot) (path_names : List (List ℕ)) → AreExact inner → Exact kind (unnamed_led n inner s path_names) (bracket ∷ paren ∷ operator_kinds) (bracket ∷ whole_follow) true
+exact_unnamed_led n s path_names x = wider refl refl (or (bracket ∷ []) refl refl (exact_bracket_led n s path_names x) (exact_called_led n s path_names x))
+
 pub exact_path_led : {inner : Inner} (n : ℕ) (s : Spot) → AreExact inner → Exact kind (path_led n inner s) (colons ∷ []) whole_follow false
-exact_path_led n s x =
+exact_path_led {inner = inner} n s x =
     wider refl refl
     (then (exact_sign colons refl) refl
     (λ _. then exact_path refl
-    (λ path_names. or names refl refl (exact_named_led _) (or (bracket ∷ []) refl refl (exact_bracket_led n s path_names x) (exact_called_led n s path_names x)))))
+    (λ path_names. guard names (nat_lt 0 inner.blocks) refl refl (exact_named_led _) (exact_unnamed_led n s path_names x))))
 
 pub exact_name_led : {inner : Inner} (n : ℕ) (g : Measured) → AreExact inner → Exact kind (name_led n inner g) (dot ∷ bracket ∷ operator_kinds) whole_follow true
 exact_name_led n g x = wider refl refl (then (exact_postfixes n g x) refl (λ a. exact_rest_of_form n a x))

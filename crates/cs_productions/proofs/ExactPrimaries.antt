@@ -13,7 +13,7 @@ use Rattle.cs_grammar.proofs.Limited.{guard}
 use Rattle.cs_productions.specs.Kinds.{paren, unparen, bracket, unbracket, dot, colons, global, kw_base, kw_new, kw_default, kw_checked, kw_unchecked, simple_kinds}
 use Rattle.cs_productions.specs.Tokens.{kind}
 use Rattle.cs_productions.specs.Inner.{Inner}
-use Rattle.cs_productions.specs.Primaries.{of_base, called_path, indexed, behind_path, global_path, global_leaf, of_global, of_new_object, with_member, behind_array, of_new_array, of_new, of_default, of_checked, of_simple}
+use Rattle.cs_productions.specs.Primaries.{of_base, path_alone, called_path, indexed, behind_path, global_path, global_leaf, of_global, of_new_object, with_member, behind_array, of_new_array, of_new, of_default, of_checked, of_simple}
 use Rattle.cs_productions.proofs.Follow.{postfix_follow, AreExact}
 use Rattle.cs_productions.proofs.ExactTokens.{sample_of, global_sample, exact_sign, exact_place, exact_any_name, exact_simple}
 use Rattle.cs_productions.proofs.ExactTypes.{exact_path, exact_named_type, exact_ranks, exact_ty}
@@ -34,7 +34,7 @@ exact_indexed n a x = wider refl refl (then (exact_one_index a x) refl (λ b. ex
 pub exact_behind_path : {inner : Inner} (n : ℕ) (s : Spot) (names : List (List ℕ)) → AreExact inner → Exact kind (behind_path n inner s names) (paren ∷ bracket ∷ []) postfix_follow true
 exact_behind_path n s names x =
     wider refl refl
-    (guard (paren ∷ []) (nat_lt 0 n) refl refl (exact_called_path n s names x) (guard (bracket ∷ []) (nat_lt 0 n) refl refl (exact_indexed n _ x) (exact_gives _)))
+    (guard (paren ∷ []) (nat_lt 0 n) refl refl (exact_called_path n s names x) (guard (bracket ∷ []) (nat_lt 0 n) refl refl (exact_indexed n (path_alone s names) x) (exact_gives _)))
 
 pub exact_global_path : {inner : Inner} (n : ℕ) (s : Spot) → AreExact inner → Exact kind (global_path n inner s) (colons ∷ []) postfix_follow false
 exact_global_path n s x =

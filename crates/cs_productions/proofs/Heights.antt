@@ -16,13 +16,13 @@ use Rattle.cs_productions.specs.declared.values.Part.TheVariants as part
 use Rattle.cs_grammar.specs.Grammar.{Grammar, gives, one, read_one, TakesOne, bind, either, limited, guarded, turns}
 use Rattle.cs_grammar.specs.Levels.{Yields}
 use Rattle.cs_grammar.proofs.Basics.{one_sound}
-use Rattle.cs_grammar.proofs.Deeper.{yields_any, yields_gives, yields_then, yields_or, yields_limit, yields_turns}
+use Rattle.cs_grammar.proofs.Deeper.{yields_any, yields_gives, yields_then, yields_or, yields_limit, yields_guard, yields_turns}
 use Rattle.cs_productions.specs.Kinds.{names, paren, unparen, bracket, unbracket, comma, dot, colon, colons, question, arrow, global, keyword_types, operand_kinds, expression_kinds, simple_kinds, counted_kinds, unary_operators, multiplicative_operators, additive_operators, shift_operators, comparisons, type_tests, relational_operators, equality_operators, amp, caret, bar, both, either_one, kw_base, kw_new, kw_default, kw_checked, kw_unchecked, kw_ref, kw_out}
 use Rattle.cs_productions.specs.Tokens.{kind, sign, place, any_name, leaf, simple, simple_of}
 use Rattle.cs_productions.specs.Types.{path, named_type, ranks, ty, way, type_of_keyword, global_type, array_of, passed_param, more_params}
 use Rattle.cs_productions.specs.Inner.{Inner}
 use Rattle.cs_productions.specs.Calls.{with_arg, no_args, one_arg, one_more_arg, no_more_args, some_args, arguments, raised, member_of, call_of, called, one_member, index_of, one_index, one_postfix, postfixes}
-use Rattle.cs_productions.specs.Primaries.{base_call, of_base, global_call, called_path, indexed, behind_path, global_path, global_leaf, of_global, new_object, of_new_object, new_array, with_member, behind_array, of_new_array, of_new, default_of, of_default, checked_of, of_checked, of_simple}
+use Rattle.cs_productions.specs.Primaries.{base_call, of_base, global_call, path_alone, called_path, indexed, behind_path, global_path, global_leaf, of_global, new_object, of_new_object, new_array, with_member, behind_array, of_new_array, of_new, default_of, of_default, checked_of, of_checked, of_simple}
 use Rattle.cs_productions.specs.Operators.{in_parentheses, lambda_of, lambda, lambda_behind, lambda_from_way, lambda_from_type, cast_of, casting, cast_to, path_of, closed_form, closed, led_in, behind_type, keyword_in, plain_in, behind_paren, of_paren, of_counted, of_plain, plain_operand, operand, signed_of, signed, unary, plain_unary, binary_form, one_binary, binaries, test_form, one_test, one_relation, relations, multiplicative, additive, shift, relational, equality, and, exclusive_or, inclusive_or, conditional_and, conditional_or, conditional_of, choosing, chosen, conditional, form_led, type_led, rest_of_form, named_led, array_led, index_led, bracket_led, called_led, path_led, name_led, lead}
 use Rattle.cs_productions.specs.Levels.{forms_at, at, name_alone, lowest, below, within}
 
@@ -49,15 +49,16 @@ Below n a = a.height < n
 abbrev pub ArgsBelow : ℕ → Args → Type 0
 ArgsBelow n args = args.height < n
 
-abbrev pub LeadWithin : (Measured → Type 0) → Lead → Type 0
-LeadWithin P (led.Form a) = P a
-LeadWithin P (led.Type t) = Unit {0}
-LeadWithin P (led.Named t n) = Unit {0}
+-- a name behind a type is a lambda's parameter, which asks for a block
+abbrev pub LeadWithin : ℕ → (Measured → Type 0) → Lead → Type 0
+LeadWithin blocks P (led.Form a) = P a
+LeadWithin blocks P (led.Type t) = Unit {0}
+LeadWithin blocks P (led.Named t n) = 0 < blocks
 
 -- what stands one level lower is lower, where there is a level at all
 pub record AreBelow (n : ℕ) (inner : Inner) : Type 0 where
   pub forms : 0 < n → (p : Part) → Yields (Below n) (inner.forms p)
-  pub lead : 0 < n → Yields (LeadWithin (Below n)) inner.lead
+  pub lead : 0 < n → Yields (LeadWithin inner.blocks (Below n)) inner.lead
 
 -- arguments and postfixes
 
@@ -120,7 +121,7 @@ within_indexed a y room = yields_then (within_one_index a y room) (λ b p. withi
 pub within_behind_path : {n : ℕ} {inner : Inner} (s : Spot) (path_names : List (List ℕ)) → AreBelow n inner → Yields (AtMost n) (behind_path n inner s path_names)
 within_behind_path {n = n} s path_names y =
     yields_where (paren ∷ []) (nat_lt 0 n) (λ r. within_called_path s path_names y (ltb-true 0 n r))
-    (yields_where (bracket ∷ []) (nat_lt 0 n) (λ r. within_indexed _ y (ltb-true 0 n r)) (yields_gives {P = AtMost n} _ (omega arith)))
+    (yields_where (bracket ∷ []) (nat_lt 0 n) (λ r. within_indexed (path_alone s path_names) y (ltb-true 0 n r)) (yields_gives {P = AtMost n} _ (omega arith)))
 
 pub within_of_global : {n : ℕ} {inner : Inner} → AreBelow n inner → Yields (AtMost n) (of_global n inner)
 within_of_global {n = n} {inner = inner} y =
@@ -198,7 +199,7 @@ pub within_closed_form : {n : ℕ} {inner : Inner} (s : Spot) (a : Measured) (p 
 within_closed_form s a None y room = within_postfixes (in_parentheses s a) y (omega arith)
 within_closed_form s a (Some t) y room = yields_or kind operand_kinds (within_casting s t y (omega arith)) (within_postfixes (in_parentheses s a) y (omega arith))
 
-pub within_closed : {n : ℕ} {inner : Inner} (s : Spot) (l : Lead) → AreBelow n inner → 0 < n → LeadWithin (Below n) l → Yields (AtMost n) (closed n inner s l)
+pub within_closed : {n : ℕ} {inner : Inner} (s : Spot) (l : Lead) → AreBelow n inner → 0 < n → LeadWithin inner.blocks (Below n) l → Yields (AtMost n) (closed n inner s l)
 within_closed s (led.Form a) y some room = yields_then {Q = λ _. Unit {0}} (any_sign unparen) (λ _ _. within_closed_form s a (path_of a.form) y room)
 within_closed s (led.Type t) y some room = within_cast_to s t y some
 within_closed s (led.Named t name) y some room = within_lambda_behind s _ y some
@@ -207,7 +208,7 @@ pub within_led_in : {n : ℕ} {inner : Inner} (s : Spot) → AreBelow n inner �
 within_led_in s y some = yields_then (y.lead some) (λ l p. within_closed s l y some p)
 
 pub within_behind_type : {n : ℕ} {inner : Inner} (s : Spot) (t : TypeForm) → AreBelow n inner → 0 < n → Yields (AtMost n) (behind_type n inner s t)
-within_behind_type s t y some = yields_or kind names (within_lambda_from_type s t y some) (within_cast_to s t y some)
+within_behind_type {inner = inner} s t y some = yields_guard kind names (nat_lt 0 inner.blocks) (within_lambda_from_type s t y some) (within_cast_to s t y some)
 
 pub within_keyword_in : {n : ℕ} {inner : Inner} (s : Spot) → AreBelow n inner → 0 < n → Yields (AtMost n) (keyword_in n inner s)
 within_keyword_in {inner = inner} s y some =
@@ -219,10 +220,10 @@ within_plain_in s y some =
     (λ a p. yields_then {Q = λ _. Unit {0}} (any_sign unparen) (λ _ _. within_postfixes (in_parentheses s a) y (omega arith)))
 
 pub within_behind_paren : {n : ℕ} {inner : Inner} (s : Spot) → AreBelow n inner → 0 < n → Yields (AtMost n) (behind_paren n inner s)
-within_behind_paren s y some =
-    yields_or kind (unparen ∷ []) (within_lambda s [] y some)
-    (yields_or kind (kw_ref ∷ kw_out ∷ []) (within_lambda_from_way s y some)
-    (yields_or kind keyword_types (within_keyword_in s y some) (yields_or kind (global ∷ []) (within_led_in s y some) (within_plain_in s y some))))
+within_behind_paren {inner = inner} s y some =
+    yields_guard kind (unparen ∷ kw_ref ∷ kw_out ∷ []) (nat_lt 0 inner.blocks)
+    (yields_or kind (unparen ∷ []) (within_lambda s [] y some) (within_lambda_from_way s y some))
+    (yields_or kind keyword_types (within_keyword_in s y some) (yields_or kind (global ∷ []) (within_led_in s y some) (within_plain_in s y some)))
 
 -- operands and unary operators
 
@@ -316,44 +317,45 @@ within_conditional {n = n} a y p =
 
 -- what begins with `global` inside parentheses
 
-pub within_rest_of_form : {n : ℕ} {inner : Inner} (a : Measured) → AreBelow n inner → AtMost n a → Yields (LeadWithin (AtMost n)) (rest_of_form n inner a)
-within_rest_of_form {n = n} a y p = yields_then (within_conditional a y p) (λ b q. yields_gives {P = LeadWithin (AtMost n)} (form_led b) q)
+pub within_rest_of_form : {n : ℕ} {inner : Inner} (a : Measured) → AreBelow n inner → AtMost n a → Yields (LeadWithin inner.blocks (AtMost n)) (rest_of_form n inner a)
+within_rest_of_form {n = n} {inner = inner} a y p =
+    yields_then (within_conditional a y p) (λ b q. yields_gives {P = LeadWithin inner.blocks (AtMost n)} (form_led b) q)
 
-pub within_named_led : {n : ℕ} (t : TypeForm) → Yields (LeadWithin (AtMost n)) (named_led t)
-within_named_led {n = n} t =
-    yields_then {Q = λ _. Unit {0}} (yields_any any_name) (λ name _. yields_gives {P = LeadWithin (AtMost n)} (led.Named t name) tt)
+pub within_named_led : {n : ℕ} (blocks : ℕ) (t : TypeForm) → 0 < blocks → Yields (LeadWithin blocks (AtMost n)) (named_led t)
+within_named_led {n = n} blocks t may =
+    yields_then {Q = λ _. Unit {0}} (yields_any any_name) (λ name _. yields_gives {P = LeadWithin blocks (AtMost n)} (led.Named t name) may)
 
-pub within_array_led : {n : ℕ} (limit : ℕ) (t : TypeForm) → Yields (LeadWithin (AtMost n)) (array_led limit t)
-within_array_led {n = n} limit t =
+pub within_array_led : {n : ℕ} (blocks limit : ℕ) (t : TypeForm) → Yields (LeadWithin blocks (AtMost n)) (array_led blocks limit t)
+within_array_led {n = n} blocks limit t =
     yields_then {Q = λ _. Unit {0}} (any_sign unbracket)
     (λ _ _. yields_then {Q = λ _. Unit {0}} (yields_any (ranks limit (array_of t)))
-    (λ u _. yields_or kind names (within_named_led u) (yields_gives {P = LeadWithin (AtMost n)} (type_led u) tt)))
+    (λ u _. yields_where names (nat_lt 0 blocks) (λ r. within_named_led blocks u (ltb-true 0 blocks r)) (yields_gives {P = LeadWithin blocks (AtMost n)} (type_led u) tt)))
 
-pub within_index_led : {n : ℕ} {inner : Inner} (a : Measured) → AreBelow n inner → a.height < n → Yields (LeadWithin (AtMost n)) (index_led n inner a)
+pub within_index_led : {n : ℕ} {inner : Inner} (a : Measured) → AreBelow n inner → a.height < n → Yields (LeadWithin inner.blocks (AtMost n)) (index_led n inner a)
 within_index_led a y room =
     yields_then (y.forms (omega arith) part.Whole)
     (λ i p. yields_then {Q = λ _. Unit {0}} (any_sign unbracket)
     (λ _ _. yields_then (within_postfixes (index_of a i) y (omega arith)) (λ b q. within_rest_of_form b y q)))
 
-pub within_bracket_led : {n : ℕ} {inner : Inner} (s : Spot) (path_names : List (List ℕ)) → AreBelow n inner → Yields (LeadWithin (AtMost n)) (bracket_led n inner s path_names)
+pub within_bracket_led : {n : ℕ} {inner : Inner} (s : Spot) (path_names : List (List ℕ)) → AreBelow n inner → Yields (LeadWithin inner.blocks (AtMost n)) (bracket_led n inner s path_names)
 within_bracket_led {n = n} {inner = inner} s path_names y =
     yields_then {Q = λ _. Unit {0}} (any_sign bracket)
-    (λ _ _. yields_where expression_kinds (nat_lt 0 n) (λ r. within_index_led _ y (ltb-true 0 n r)) (within_array_led inner.ranks (global_type s path_names)))
+    (λ _ _. yields_where expression_kinds (nat_lt 0 n) (λ r. within_index_led (path_alone s path_names) y (ltb-true 0 n r)) (within_array_led inner.blocks inner.ranks (global_type s path_names)))
 
-pub within_called_led : {n : ℕ} {inner : Inner} (s : Spot) (path_names : List (List ℕ)) → AreBelow n inner → Yields (LeadWithin (AtMost n)) (called_led n inner s path_names)
+pub within_called_led : {n : ℕ} {inner : Inner} (s : Spot) (path_names : List (List ℕ)) → AreBelow n inner → Yields (LeadWithin inner.blocks (AtMost n)) (called_led n inner s path_names)
 within_called_led {n = n} s path_names y =
     yields_then
     (yields_where (paren ∷ []) (nat_lt 0 n) (λ r. within_called_path s path_names y (ltb-true 0 n r)) (yields_gives {P = AtMost n} _ (omega arith)))
     (λ a p. within_rest_of_form a y p)
 
-pub within_path_led : {n : ℕ} {inner : Inner} (s : Spot) → AreBelow n inner → Yields (LeadWithin (AtMost n)) (path_led n inner s)
-within_path_led s y =
+pub within_path_led : {n : ℕ} {inner : Inner} (s : Spot) → AreBelow n inner → Yields (LeadWithin inner.blocks (AtMost n)) (path_led n inner s)
+within_path_led {inner = inner} s y =
     yields_then {Q = λ _. Unit {0}} (any_sign colons)
     (λ _ _. yields_then {Q = λ _. Unit {0}} (yields_any path)
-    (λ path_names _. yields_or kind names (within_named_led (global_type s path_names))
+    (λ path_names _. yields_where names (nat_lt 0 inner.blocks) (λ r. within_named_led inner.blocks (global_type s path_names) (ltb-true 0 inner.blocks r))
     (yields_or kind (bracket ∷ []) (within_bracket_led s path_names y) (within_called_led s path_names y))))
 
-pub within_lead : {n : ℕ} {inner : Inner} → AreBelow n inner → Yields (LeadWithin (AtMost n)) (lead n inner)
+pub within_lead : {n : ℕ} {inner : Inner} → AreBelow n inner → Yields (LeadWithin inner.blocks (AtMost n)) (lead n inner)
 within_lead {n = n} {inner = inner} y =
     yields_then (yields_one {P = AtMost n} (global ∷ []) global_leaf (λ t. omega arith))
     (λ g p. yields_or {h = name_led n inner g} kind (colons ∷ []) (within_path_led g.spot y) (yields_then (within_postfixes g y p) (λ a q. within_rest_of_form a y q)))
@@ -375,18 +377,18 @@ within_forms_at part.ConditionalAnd y = yields_then (within_unary y) (λ a p. wi
 within_forms_at part.Whole y = yields_then (within_unary y) (λ a p. within_conditional a y p)
 within_forms_at part.Plain y = yields_then (within_plain_unary y) (λ a p. within_conditional a y p)
 
-lead_below : (n : ℕ) (l : Lead) → LeadWithin (AtMost n) l → LeadWithin (Below (suc n)) l
-lead_below n (led.Form a) p = omega arith
-lead_below n (led.Type t) p = tt
-lead_below n (led.Named t name) p = tt
+lead_below : (blocks n : ℕ) (l : Lead) → LeadWithin blocks (AtMost n) l → LeadWithin blocks (Below (suc n)) l
+lead_below blocks n (led.Form a) p = omega arith
+lead_below blocks n (led.Type t) p = tt
+lead_below blocks n (led.Named t name) p = p
 
 pub below_at : {n : ℕ} {inner : Inner} → AreBelow n inner → AreBelow (suc n) (at n inner)
 below_at {n = n} {inner = inner} y =
     record {
       forms = λ _ p. record { yields = λ ts a rest e. let h : AtMost n a = (within_forms_at p y).yields ts a rest e in omega arith };
-      lead = λ _. record { yields = λ ts l rest e. lead_below n l ((within_lead y).yields ts l rest e) };
+      lead = λ _. record { yields = λ ts l rest e. lead_below inner.blocks n l ((within_lead y).yields ts l rest e) };
     }
 
-pub are_below : (block : Grammar Token Block) (limit n : ℕ) → AreBelow n (below block limit n)
-are_below block limit zero = record { forms = λ some p. absurd (omega arith); lead = λ some. absurd (omega arith) }
-are_below block limit (suc n) = below_at (are_below block limit n)
+pub are_below : (block : Grammar Token Block) (blocks limit n : ℕ) → AreBelow n (below block blocks limit n)
+are_below block blocks limit zero = record { forms = λ some p. absurd (omega arith); lead = λ some. absurd (omega arith) }
+are_below block blocks limit (suc n) = below_at (are_below block blocks limit n)

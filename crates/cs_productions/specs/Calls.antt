@@ -1,6 +1,6 @@
 -- Arguments and what stands behind a primary expression (ECMA-334, 12.6.2, 12.8.7, 12.8.10, 12.8.12). The number `n` says how many
 -- levels there may be.
-use Rattle.std.specs.Prelude.{◌≡◌, ℕ, ◌+◌, max, true, List, [], ◌∷◌, ◌++◌, nat_lt}
+use Rattle.std.specs.Prelude.{◌≡◌, ℕ, ◌+◌, max, true, false, List, [], ◌∷◌, ◌++◌, nat_lt}
 use Rattle.cs_token.specs.declared.tokens.Token.{Token}
 use Rattle.cs_tree.specs.declared.types.Spot.{Spot}
 use Rattle.cs_tree.specs.declared.types.Name.{Name}
@@ -48,16 +48,19 @@ some_args inner = do
 abbrev pub arguments : Inner → Grammar Token Args
 arguments inner = do _ ← sign paren; either kind (unparen ∷ []) no_more_args (some_args inner)
 
--- one level above another
+-- one level above another, and the same with arguments at its end
 abbrev pub raised : ℕ → Form → Spot → Measured
-raised h f s = record { form = f; height = h + 1; spot = s }
+raised h f s = record { form = f; height = h + 1; spot = s; is_call = false }
+
+abbrev pub raised_call : ℕ → Form → Spot → Measured
+raised_call h f s = record { form = f; height = h + 1; spot = s; is_call = true }
 
 -- a member of an expression, and its call
 abbrev pub member_of : Measured → Name → Measured
 member_of a n = raised a.height (form.Member a.spot a.form n) a.spot
 
 abbrev pub call_of : Measured → Name → Args → Measured
-call_of a n args = raised (max (a.height + 1) args.height) (form.Call a.spot a.form n args.args) a.spot
+call_of a n args = raised_call (max (a.height + 1) args.height) (form.Call a.spot a.form n args.args) a.spot
 
 -- "(" args ")", which makes a call of what has this height, or nothing
 abbrev pub called : ℕ → Inner → ℕ → (Args → Measured) → Measured → Grammar Token Measured

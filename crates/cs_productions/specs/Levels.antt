@@ -30,7 +30,7 @@ forms_at n inner part.Whole = do a ← unary n inner; conditional n inner a
 forms_at n inner part.Plain = do a ← plain_unary n inner; conditional n inner a
 
 abbrev pub at : ℕ → Inner → Inner
-at n inner = record { forms = forms_at n inner; lead = lead n inner; block = inner.block; ranks = inner.ranks }
+at n inner = record { forms = forms_at n inner; lead = lead n inner; block = inner.block; blocks = inner.blocks; ranks = inner.ranks }
 
 -- What stands below the last level. Nothing of it is ever read: with no level left, all that would ask for it is too deep.
 abbrev pub name_alone : Grammar Token Measured
@@ -39,14 +39,15 @@ name_alone = one kind (name ∷ []) global_leaf
 abbrev pub led_alone : Grammar Token Lead
 led_alone = do g ← one kind (global ∷ []) global_leaf; gives (form_led g)
 
-abbrev pub lowest : Grammar Token Block → ℕ → Inner
-lowest block ranks = record { forms = λ _. name_alone; lead = led_alone; block = block; ranks = ranks }
+abbrev pub lowest : Grammar Token Block → ℕ → ℕ → Inner
+lowest block blocks ranks = record { forms = λ _. name_alone; lead = led_alone; block = block; blocks = blocks; ranks = ranks }
 
 -- what stands below this many levels
-abbrev pub below : Grammar Token Block → ℕ → ℕ → Inner
-below block ranks zero = lowest block ranks
-below block ranks (suc n) = at n (below block ranks n)
+abbrev pub below : Grammar Token Block → ℕ → ℕ → ℕ → Inner
+below block blocks ranks zero = lowest block blocks ranks
+below block blocks ranks (suc n) = at n (below block blocks ranks n)
 
--- expressions of at most this many levels
-abbrev pub within : Grammar Token Block → ℕ → ℕ → Inner
-within block ranks n = at n (below block ranks n)
+-- expressions of at most this many levels, with lambdas of this block, which may hold so many blocks, and types of at most so many
+-- pairs of brackets
+abbrev pub within : Grammar Token Block → ℕ → ℕ → ℕ → Inner
+within block blocks ranks n = at n (below block blocks ranks n)

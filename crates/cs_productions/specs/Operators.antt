@@ -18,17 +18,18 @@ use Rattle.cs_productions.specs.declared.values.Part.{Part}
 use Rattle.cs_productions.specs.declared.values.Part.TheVariants as part
 use Rattle.cs_grammar.specs.Grammar.{Grammar, gives, one, ◌>>=◌, either, guarded, turns}
 use Rattle.cs_productions.specs.Kinds.{names, paren, unparen, bracket, unbracket, colon, colons, question, arrow, comma, global, keyword_types, operand_kinds, expression_kinds, counted_kinds, unary_operators, multiplicative_operators, additive_operators, shift_operators, comparisons, type_tests, relational_operators, equality_operators, amp, caret, bar, both, either_one, kw_is, kw_ref, kw_out, kw_new, kw_default, kw_base}
-use Rattle.cs_productions.specs.Tokens.{kind, sign, place, spot_of, any_name, leaf, unary_of, binary_of}
+use Rattle.cs_productions.specs.Tokens.{kind, sign, place, spot_of, any_name, unary_of, binary_of}
 use Rattle.cs_productions.specs.Types.{path, array_of, ranks, type_of_keyword, ty, global_type, passed_param, param_of, more_params}
 use Rattle.cs_productions.specs.Inner.{Inner}
 use Rattle.cs_productions.specs.Calls.{raised, postfixes, index_of}
-use Rattle.cs_productions.specs.Primaries.{of_base, called_path, of_global, global_leaf, of_new, of_default, of_checked, of_simple}
+use Rattle.cs_productions.specs.Primaries.{of_base, path_alone, called_path, of_global, global_leaf, of_new, of_default, of_checked, of_simple}
 
 -- "(" expr ")" (12.8.5)
 abbrev pub in_parentheses : Spot → Measured → Measured
 in_parentheses s a = raised a.height a.form s
 
--- "(" [param {"," param}] ")" "=>" block (12.19), from the ")" on
+-- "(" [param {"," param}] ")" "=>" block (12.19), from the ")" on. Where no block may be opened, the first token with which only a
+-- lambda goes on is too deep.
 abbrev pub lambda_of : Spot → List Param → Block → Measured
 lambda_of s params block = raised 0 (form.Lambda s params block) s
 
@@ -87,7 +88,7 @@ led_in n inner s = do l ← inner.lead; closed n inner s l
 
 -- behind "(" and a type that begins with a keyword: a cast or a lambda
 abbrev pub behind_type : ℕ → Inner → Spot → TypeForm → Grammar Token Measured
-behind_type n inner s t = either kind names (lambda_from_type n inner s t) (cast_to inner s t)
+behind_type n inner s t = guarded kind (nat_lt 0 inner.blocks) names (lambda_from_type n inner s t) (cast_to inner s t)
 
 abbrev pub keyword_in : ℕ → Inner → Spot → Grammar Token Measured
 keyword_in n inner s = do t ← type_of_keyword inner.ranks; behind_type n inner s t
@@ -96,11 +97,14 @@ abbrev pub plain_in : ℕ → Inner → Spot → Grammar Token Measured
 plain_in n inner s = do a ← inner.forms part.Plain; _ ← sign unparen; postfixes n inner (in_parentheses s a)
 
 -- "(" expr ")" | "(" ty ")" operand | "(" [param {"," param}] ")" "=>" block
+abbrev pub lambda_in : ℕ → Inner → Spot → Grammar Token Measured
+lambda_in n inner s = either kind (unparen ∷ []) (lambda n inner s []) (lambda_from_way n inner s)
+
+abbrev pub form_in : ℕ → Inner → Spot → Grammar Token Measured
+form_in n inner s = either kind keyword_types (keyword_in n inner s) (either kind (global ∷ []) (led_in n inner s) (plain_in n inner s))
+
 abbrev pub behind_paren : ℕ → Inner → Spot → Grammar Token Measured
-behind_paren n inner s =
-    either kind (unparen ∷ []) (lambda n inner s [])
-    (either kind (kw_ref ∷ kw_out ∷ []) (lambda_from_way n inner s)
-    (either kind keyword_types (keyword_in n inner s) (either kind (global ∷ []) (led_in n inner s) (plain_in n inner s))))
+behind_paren n inner s = guarded kind (nat_lt 0 inner.blocks) (unparen ∷ kw_ref ∷ kw_out ∷ []) (lambda_in n inner s) (form_in n inner s)
 
 abbrev pub of_paren : ℕ → Inner → Grammar Token Measured
 of_paren n inner = do s ← place paren; behind_paren n inner s
@@ -221,11 +225,11 @@ rest_of_form n inner a = do b ← conditional n inner a; gives (form_led b)
 abbrev pub named_led : TypeForm → Grammar Token Lead
 named_led t = do name ← any_name; gives (led.Named t name)
 
-abbrev pub array_led : ℕ → TypeForm → Grammar Token Lead
-array_led limit t = do
+abbrev pub array_led : ℕ → ℕ → TypeForm → Grammar Token Lead
+array_led blocks limit t = do
   _ ← sign unbracket
   u ← ranks limit (array_of t)
-  either kind names (named_led u) (gives (type_led u))
+  guarded kind (nat_lt 0 blocks) names (named_led u) (gives (type_led u))
 
 abbrev pub index_led : ℕ → Inner → Measured → Grammar Token Lead
 index_led n inner a = do
@@ -237,18 +241,21 @@ index_led n inner a = do
 abbrev pub bracket_led : ℕ → Inner → Spot → List (List ℕ) → Grammar Token Lead
 bracket_led n inner s names = do
   _ ← sign bracket
-  guarded kind (nat_lt 0 n) expression_kinds (index_led n inner (leaf (form.Global s names) s)) (array_led inner.ranks (global_type s names))
+  guarded kind (nat_lt 0 n) expression_kinds (index_led n inner (path_alone s names)) (array_led inner.blocks inner.ranks (global_type s names))
 
 abbrev pub called_led : ℕ → Inner → Spot → List (List ℕ) → Grammar Token Lead
 called_led n inner s names = do
-  a ← guarded kind (nat_lt 0 n) (paren ∷ []) (called_path n inner s names) (gives (leaf (form.Global s names) s))
+  a ← guarded kind (nat_lt 0 n) (paren ∷ []) (called_path n inner s names) (gives (path_alone s names))
   rest_of_form n inner a
+
+abbrev pub unnamed_led : ℕ → Inner → Spot → List (List ℕ) → Grammar Token Lead
+unnamed_led n inner s path_names = either kind (bracket ∷ []) (bracket_led n inner s path_names) (called_led n inner s path_names)
 
 abbrev pub path_led : ℕ → Inner → Spot → Grammar Token Lead
 path_led n inner s = do
   _ ← sign colons
   path_names ← path
-  either kind names (named_led (global_type s path_names)) (either kind (bracket ∷ []) (bracket_led n inner s path_names) (called_led n inner s path_names))
+  guarded kind (nat_lt 0 inner.blocks) names (named_led (global_type s path_names)) (unnamed_led n inner s path_names)
 
 abbrev pub name_led : ℕ → Inner → Measured → Grammar Token Lead
 name_led n inner g = do a ← postfixes n inner g; rest_of_form n inner a

@@ -14,11 +14,11 @@ use Rattle.cs_productions.specs.Kinds.{paren, unparen, bracket, unbracket, dot, 
 use Rattle.cs_productions.specs.Tokens.{kind, sign, place, spot_of, any_name, text_of, leaf, simple}
 use Rattle.cs_productions.specs.Types.{path, named_type, ranks, ty}
 use Rattle.cs_productions.specs.Inner.{Inner}
-use Rattle.cs_productions.specs.Calls.{arguments, raised, called, one_member, one_index, postfixes}
+use Rattle.cs_productions.specs.Calls.{arguments, raised, raised_call, called, one_member, one_index, postfixes}
 
 -- "base" "." name ["(" args ")"] (12.8.15)
 abbrev pub base_call : Spot → Name → Args → Measured
-base_call s n args = raised args.height (form.BaseCall s n args.args) s
+base_call s n args = raised_call args.height (form.BaseCall s n args.args) s
 
 abbrev pub of_base : ℕ → Inner → Grammar Token Measured
 of_base n inner = do
@@ -31,7 +31,7 @@ of_base n inner = do
 -- Behind "global" "::" path: ["(" args ")"], and what may stand behind these. A path takes all names that it can, so what may
 -- stand behind it is no further name, but an index.
 abbrev pub global_call : Spot → List (List ℕ) → Args → Measured
-global_call s names args = raised args.height (form.GlobalCall s names args.args) s
+global_call s names args = raised_call args.height (form.GlobalCall s names args.args) s
 
 abbrev pub called_path : ℕ → Inner → Spot → List (List ℕ) → Grammar Token Measured
 called_path n inner s names = do args ← arguments inner; postfixes n inner (global_call s names args)
@@ -39,10 +39,13 @@ called_path n inner s names = do args ← arguments inner; postfixes n inner (gl
 abbrev pub indexed : ℕ → Inner → Measured → Grammar Token Measured
 indexed n inner a = do b ← one_index inner a; postfixes n inner b
 
+abbrev pub path_alone : Spot → List (List ℕ) → Measured
+path_alone s names = leaf (form.Global s names) s
+
 abbrev pub behind_path : ℕ → Inner → Spot → List (List ℕ) → Grammar Token Measured
 behind_path n inner s names =
     guarded kind (nat_lt 0 n) (paren ∷ []) (called_path n inner s names)
-    (guarded kind (nat_lt 0 n) (bracket ∷ []) (indexed n inner (leaf (form.Global s names) s)) (gives (leaf (form.Global s names) s)))
+    (guarded kind (nat_lt 0 n) (bracket ∷ []) (indexed n inner (path_alone s names)) (gives (path_alone s names)))
 
 -- "global" "::" path ["(" args ")"], or the name `global` alone
 abbrev pub global_path : ℕ → Inner → Spot → Grammar Token Measured
@@ -58,7 +61,7 @@ of_global n inner = do
 
 -- "new" ty "(" args ")" (12.8.17); the type has no brackets of its own
 abbrev pub new_object : Spot → TypeForm → Args → Measured
-new_object s t args = raised args.height (form.New s t.name args.args) s
+new_object s t args = raised_call args.height (form.New s t.name args.args) s
 
 abbrev pub of_new_object : ℕ → Inner → Spot → TypeForm → Grammar Token Measured
 of_new_object n inner s t = do args ← arguments inner; postfixes n inner (new_object s t args)

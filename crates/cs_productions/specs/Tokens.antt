@@ -115,7 +115,7 @@ simple_form t s = word_form (kind_of t) s
 
 -- an expression without operators
 abbrev pub leaf : Form → Spot → Measured
-leaf f s = record { form = f; height = 0; spot = s }
+leaf f s = record { form = f; height = 0; spot = s; is_call = false }
 
 abbrev pub simple_of : Token → Measured
 simple_of t = leaf (simple_form t.lexeme (spot_of t)) (spot_of t)

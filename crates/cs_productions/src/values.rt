@@ -10,6 +10,8 @@ pub struct Measured {
     pub form: Form,
     pub height: u32,
     pub spot: Spot,
+    /// Whether arguments in parentheses stand at its end, so that it can be a statement.
+    pub is_call: bool,
 }
 
 /// Arguments, and the height of the highest.
