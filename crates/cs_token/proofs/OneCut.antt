@@ -1,9 +1,10 @@
 -- A text is cut into tokens in one way.
 use Rattle.std.proofs.Common.{◌≡◌, ℕ, false, List, [], ◌∷◌, Option, Some, None, refl, sym, ◌∙◌, ap, subst}
-use Rattle.cs_token.specs.declared.tokens.Lexeme.{Lexeme}
+use Rattle.cs_token.specs.declared.lexeme.Lexeme.{Lexeme}
 use Rattle.cs_token.specs.declared.tokens.Token.{Token}
 use Rattle.cs_token.specs.Words.{behind_gap}
-use Rattle.cs_token.specs.Tokens.{token_at, Cuts}
+use Rattle.cs_token.specs.Tokens.{token_at}
+use Rattle.cs_token.specs.Cuts.{place, Cuts}
 
 some : Lexeme × List ℕ → Option (Lexeme × List ℕ)
 some p = Some p
@@ -19,9 +20,9 @@ not_none r p e h = cc
 made : Lexeme → ℕ × ℕ → Token
 made l p = record { lexeme = l; line = p.0; column = p.1 }
 
-same_token : (t u : Token) → t.lexeme ≡ u.lexeme → (let p : ℕ × ℕ = (t.line, t.column) in p) ≡ (u.line, u.column) → t ≡ u
+same_token : (t u : Token) → t.lexeme ≡ u.lexeme → place t ≡ place u → t ≡ u
 unfolding made
-same_token t u e h = ap (λ l. made l (t.line, t.column)) e ∙ ap (made u.lexeme) h
+same_token t u e h = ap (λ l. made l (place t)) e ∙ ap (made u.lexeme) h
 
 pub one_cut_of : (whole left : List ℕ) (ts us : List Token) (rest other : List ℕ) → Cuts whole left ts rest → token_at rest ≡ None → Cuts whole left us other → token_at other ≡ None → (ts ≡ us) × (rest ≡ other)
 unfolding some

@@ -1,92 +1,122 @@
--- The tokens of a text (ECMA-334, 6.4). At each place stands one token at most, as a function says. So a text is cut into
--- tokens in one way.
-use Rattle.std.specs.Prelude.{◌≡◌, ℕ, zero, suc, ◌+◌, ◌-◌, ◌*◌, false, cond, ◌&&◌, ◌||◌, ◌==◌, nat_le, List, [], ◌∷◌, ◌++◌, length, drop, take, position, Option, Some, None}
-use Rattle.std.specs.List.{take_while, prefix_len}
+-- The token that a text begins with (ECMA-334, 6.4). One token at most stands at a place, as a function says, and it is as
+-- long as it can be. A text is the list of its characters.
+use Rattle.std.specs.Prelude.{ℕ, zero, suc, ◌+◌, ◌*◌, cond, ◌||◌, ◌==◌, nat_lt, List, [], ◌∷◌, ◌++◌, length, position, Option, Some, None, option_and_then, is_some, codes}
 use Rattle.std.specs.Str.{bytes_eq}
+use Rattle.std.specs.Char.{digit_value}
 use Rattle.std.specs.Char.Escape.{encode_utf16}
 use Rattle.std.proofs.Math.Utf8.{encodes}
 use Rattle.unicode_ident.specs.Ident.{is_xid_start, is_xid_continue}
 use Rattle.dc_base.specs.Identifiers.{keywords}
-use Rattle.cs_token.specs.declared.tokens.Lexeme.{Lexeme}
-use Rattle.cs_token.specs.declared.tokens.Lexeme.TheVariants.{Name, Keyword, Number, Char, Literal, Sign}
-use Rattle.cs_token.specs.declared.tokens.Token.{Token}
-use Rattle.cs_token.specs.Words.{behind_gap, is_digit, number_of, suffix_at, sign_at}
+use Rattle.cs_token.specs.declared.lexeme.Suffix.{Suffix}
+use Rattle.cs_token.specs.declared.lexeme.Suffix.TheVariants as suffix
+use Rattle.cs_token.specs.declared.lexeme.Lexeme.{Lexeme}
+use Rattle.cs_token.specs.declared.lexeme.Lexeme.TheVariants.{Name, Keyword, Number, Char, Literal, Sign}
+use Rattle.cs_token.specs.Words.{front, behind, is_digit, number_of, suffix_at, sign_at}
 
--- the kinds by which a grammar tells tokens apart
+-- The kinds by which a grammar tells tokens apart. Names that mean something of their own at some places (6.4.4, contextual
+-- keywords) have kinds of their own, and so have numbers with a suffix.
+abbrev pub kind_of_name : List ℕ → ℕ
+kind_of_name name =
+    cond (bytes_eq name (codes "global")) 4
+    (cond (bytes_eq name (codes "get")) 5 (cond (bytes_eq name (codes "set")) 6 (cond (bytes_eq name (codes "indexer")) 7 0)))
+
+abbrev pub kind_of_number : Suffix → ℕ
+kind_of_number suffix.Plain = 1
+kind_of_number _ = 8
+
 abbrev pub kind_of : Lexeme → ℕ
-kind_of (Name text) = 0
-kind_of (Number n s) = 1
+kind_of (Name text) = kind_of_name text
+kind_of (Number n s) = kind_of_number s
 kind_of (Char unit) = 2
 kind_of (Literal units) = 3
 kind_of (Sign k) = 10 + k
 kind_of (Keyword k) = 60 + k
 
--- the number of a keyword
+-- the number of a keyword (6.4.4), from 0 in the order of their letters
 abbrev pub keyword_number : List ℕ → Option ℕ
 keyword_number word = position (λ k. bytes_eq k word) keywords
 
--- names and keywords: as many characters as can be part of one. A name is kept in UTF-8
-abbrev pub word_of : List ℕ → List ℕ
-word_of text = take_while is_xid_continue text
+-- names and keywords, whose letters are kept in UTF-8
+abbrev pub numbered_name : Option ℕ → List ℕ → Lexeme
+numbered_name None word = Name word
+numbered_name (Some k) word = Keyword k
 
-abbrev pub behind_word : List ℕ → List ℕ
-behind_word text = drop (prefix_len is_xid_continue text) text
-
-abbrev pub named : Option ℕ → List ℕ → Lexeme
-named None word = Name word
-named (Some k) word = Keyword k
+abbrev pub named : List ℕ → Lexeme
+named word = numbered_name (keyword_number word) word
 
 -- `@` makes a name of a keyword, and of nothing else
-abbrev pub escaped : Option ℕ → List ℕ → List ℕ → Option (Lexeme × List ℕ)
-escaped None word rest = None
-escaped (Some k) word rest = Some (Name word, rest)
+abbrev pub escaped_name : Option ℕ → List ℕ → List ℕ → Option (Lexeme × List ℕ)
+escaped_name None word rest = None
+escaped_name (Some k) word rest = Some (Name word, rest)
 
--- decimal digits below 2^64, and a suffix
-abbrev pub numbered : Option ℕ → List ℕ → Option (Lexeme × List ℕ)
-numbered None rest = None
-numbered (Some n) rest = let s = suffix_at rest in Some (Number n s.0, drop s.1 rest)
+abbrev pub escaped : List ℕ → List ℕ → Option (Lexeme × List ℕ)
+escaped word rest = escaped_name (keyword_number word) word rest
 
--- a hexadecimal digit, in capitals or not
-abbrev pub hex_value : ℕ → Option ℕ
-hex_value c =
-    cond (is_digit c) (Some (c - 48))
-    (cond (nat_le 65 c && nat_le c 70) (Some (c - 55)) (cond (nat_le 97 c && nat_le c 102) (Some (c - 87)) None))
+-- decimal digits below 2^64, and a suffix (6.4.5.3)
+abbrev pub numbered : Option ℕ → Suffix × List ℕ → Option (Lexeme × List ℕ)
+numbered None p = None
+numbered (Some n) p = Some (Number n p.0, p.1)
+
+-- a hexadecimal digit, in capitals or not, and what stands behind it
+abbrev pub hex_digit_at : List ℕ → Option (ℕ × List ℕ)
+hex_digit_at [] = None
+hex_digit_at (c ∷ rest) = let value = digit_value c in cond (nat_lt value 16) (Some (value, rest)) None
 
 -- the unit of four hexadecimal digits, and what stands behind them
-abbrev pub of_hex : Option ℕ → Option ℕ → Option ℕ → Option ℕ → List ℕ → Option (List ℕ × List ℕ)
-of_hex (Some a) (Some b) (Some c) (Some d) rest = Some ((((a * 16 + b) * 16 + c) * 16 + d) ∷ [], rest)
-of_hex _ _ _ _ rest = None
+infixl 10 ◌>>=◌
+abbrev pub ◌>>=◌ : {A B : Type 0} → Option A → (A → Option B) → Option B
+o >>= f = option_and_then f o
 
-abbrev pub hex_at : List ℕ → Option (List ℕ × List ℕ)
-hex_at (a ∷ b ∷ c ∷ d ∷ rest) = of_hex (hex_value a) (hex_value b) (hex_value c) (hex_value d) rest
-hex_at _ = None
+abbrev pub hex_at : List ℕ → Option (ℕ × List ℕ)
+hex_at text = do
+  a ← hex_digit_at text
+  b ← hex_digit_at a.1
+  c ← hex_digit_at b.1
+  d ← hex_digit_at c.1
+  Some (((a.0 * 16 + b.0) * 16 + c.0) * 16 + d.0, d.1)
 
 -- what stands behind a `\`: the unit that the escape is, and the rest (6.4.5.5)
-abbrev pub escape_at : List ℕ → Option (List ℕ × List ℕ)
-escape_at [] = None
-escape_at (c ∷ rest) =
-    cond (c == 92 || c == 34 || c == 39) (Some (c ∷ [], rest))
-    (cond (c == 48) (Some (0 ∷ [], rest))
-    (cond (c == 110) (Some (10 ∷ [], rest))
-    (cond (c == 114) (Some (13 ∷ [], rest)) (cond (c == 116) (Some (9 ∷ [], rest)) (cond (c == 117) (hex_at rest) None)))))
+abbrev pub escape_of : ℕ → Option ℕ
+escape_of c =
+    cond (c == 92 || c == 34 || c == 39) (Some c)
+    (cond (c == 48) (Some 0) (cond (c == 110) (Some 10) (cond (c == 114) (Some 13) (cond (c == 116) (Some 9) None))))
 
--- one character or escape in quotes: its units, and the rest. A return and a newline are none
+abbrev pub with_rest : Option ℕ → List ℕ → Option (ℕ × List ℕ)
+with_rest None rest = None
+with_rest (Some unit) rest = Some (unit, rest)
+
+abbrev pub escape_at : List ℕ → Option (ℕ × List ℕ)
+escape_at [] = None
+escape_at (c ∷ rest) = cond (c == 117) (hex_at rest) (with_rest (escape_of c) rest)
+
+-- one character or escape in quotes: its UTF-16 units, and the rest. A return and a newline are none
+abbrev pub one_unit : Option (ℕ × List ℕ) → Option (List ℕ × List ℕ)
+one_unit None = None
+one_unit (Some p) = Some (p.0 ∷ [], p.1)
+
 abbrev pub units_at : List ℕ → Option (List ℕ × List ℕ)
 units_at [] = None
-units_at (c ∷ rest) = cond (c == 92) (escape_at rest) (cond (c == 10 || c == 13) None (Some (encode_utf16 c, rest)))
+units_at (c ∷ rest) = cond (c == 92) (one_unit (escape_at rest)) (cond (c == 10 || c == 13) None (Some (encode_utf16 c, rest)))
+
+-- what stands behind this quote
+abbrev pub behind_quote : ℕ → List ℕ → Option (List ℕ)
+behind_quote quote [] = None
+behind_quote quote (c ∷ rest) = cond (c == quote) (Some rest) None
 
 -- behind an opening quote: one unit and the quote (6.4.5.5)
-abbrev pub closed : List ℕ → List ℕ → Option (Lexeme × List ℕ)
-closed (unit ∷ []) (c ∷ rest) = cond (c == 39) (Some (Char unit, rest)) None
-closed _ _ = None
+abbrev pub only_unit : List ℕ → Option ℕ
+only_unit (unit ∷ []) = Some unit
+only_unit _ = None
 
-abbrev pub char_of : Option (List ℕ × List ℕ) → Option (Lexeme × List ℕ)
-char_of None = None
-char_of (Some p) = closed p.0 p.1
+abbrev pub one_char : List ℕ → Option (ℕ × List ℕ)
+one_char text = do
+  p ← units_at text
+  unit ← only_unit p.0
+  rest ← behind_quote 39 p.1
+  Some (unit, rest)
 
-abbrev pub char_at : List ℕ → Option (Lexeme × List ℕ)
-char_at [] = None
-char_at (c ∷ rest) = cond (c == 39) None (char_of (units_at (c ∷ rest)))
+abbrev pub char_at : List ℕ → Option (ℕ × List ℕ)
+char_at text = cond (is_some (behind_quote 39 text)) None (one_char text)
 
 -- behind an opening double quote: the units up to the next one, among at most so many characters (6.4.5.6)
 abbrev pub joined : List ℕ → Option (List ℕ × List ℕ) → Option (List ℕ × List ℕ)
@@ -97,49 +127,25 @@ abbrev pub onward : Option (List ℕ × List ℕ) → (List ℕ → Option (List
 onward None f = None
 onward (Some p) f = joined p.0 (f p.1)
 
-abbrev pub text_at : ℕ → List ℕ → Option (List ℕ × List ℕ)
-text_at zero text = None
-text_at (suc n) [] = None
-text_at (suc n) (c ∷ rest) = cond (c == 34) (Some ([], rest)) (onward (units_at (c ∷ rest)) (text_at n))
+abbrev pub text_within : ℕ → List ℕ → Option (List ℕ × List ℕ)
+text_within zero text = None
+text_within (suc n) [] = None
+text_within (suc n) (c ∷ rest) = cond (c == 34) (Some ([], rest)) (onward (units_at (c ∷ rest)) (text_within n))
 
-abbrev pub quoted : Option (List ℕ × List ℕ) → Option (Lexeme × List ℕ)
-quoted None = None
-quoted (Some p) = Some (Literal p.0, p.1)
+abbrev pub text_at : List ℕ → Option (List ℕ × List ℕ)
+text_at text = text_within (length text) text
 
-abbrev pub signed : Option (ℕ × ℕ) → List ℕ → Option (Lexeme × List ℕ)
-signed None text = None
-signed (Some p) text = Some (Sign p.0, drop p.1 text)
+-- a value of a token and the rest
+abbrev pub made : {A : Type 0} → (A → Lexeme) → Option (A × List ℕ) → Option (Lexeme × List ℕ)
+made f None = None
+made f (Some p) = Some (f p.0, p.1)
 
 -- the token that a text begins with, and what stands behind it
 abbrev pub token_at : List ℕ → Option (Lexeme × List ℕ)
 token_at [] = None
 token_at (c ∷ rest) =
-    cond (c == 95 || is_xid_start c) (let word = encodes (word_of (c ∷ rest)) in Some (named (keyword_number word) word, behind_word (c ∷ rest)))
-    (cond (c == 64) (let word = encodes (word_of rest) in escaped (keyword_number word) word (behind_word rest))
-    (cond (is_digit c) (numbered (number_of (take_while is_digit (c ∷ rest))) (drop (prefix_len is_digit (c ∷ rest)) (c ∷ rest)))
-    (cond (c == 39) (char_at rest) (cond (c == 34) (quoted (text_at (length rest) rest)) (signed (sign_at (c ∷ rest)) (c ∷ rest))))))
-
--- line and column behind these characters
-abbrev pub place_after : ℕ × ℕ → List ℕ → ℕ × ℕ
-place_after place [] = place
-place_after place (c ∷ rest) = place_after (cond (c == 10) (place.0 + 1, 1) (place.0, place.1 + 1)) rest
-
--- line and column of the place in a text from which on this is left
-abbrev pub place_of : List ℕ → List ℕ → ℕ × ℕ
-place_of whole left = place_after (1, 1) (take (length whole - length left) whole)
-
--- From here on the text has these tokens, with blanks and comments between them, and then the rest, which begins with none.
-abbrev pub Cuts : List ℕ → List ℕ → List Token → List ℕ → Type 0
-Cuts whole left [] rest = rest ≡ behind_gap false left
-Cuts whole left (t ∷ ts) rest =
-    (more : List ℕ) × (token_at (behind_gap false left) ≡ Some (t.lexeme, more)) × ((let p : ℕ × ℕ = (t.line, t.column) in p) ≡ place_of whole (behind_gap false left)) × Cuts whole more ts rest
-
--- a text is these tokens
-abbrev pub AreTokens : List ℕ → List Token → Type 0
-AreTokens text ts = Cuts text text ts []
-
--- a text is cut in one way, up to its end or up to a place where no token stands
-abbrev pub HasOneCut : Type 0
-HasOneCut =
-    (text : List ℕ) (ts us : List Token) (rest other : List ℕ)
-    → Cuts text text ts rest → token_at rest ≡ None → Cuts text text us other → token_at other ≡ None → (ts ≡ us) × (rest ≡ other)
+    cond (c == 95 || is_xid_start c) (Some (named (encodes (c ∷ front is_xid_continue rest)), behind is_xid_continue rest))
+    (cond (c == 64) (escaped (encodes (front is_xid_continue rest)) (behind is_xid_continue rest))
+    (cond (is_digit c) (numbered (number_of (front is_digit (c ∷ rest))) (suffix_at (behind is_digit (c ∷ rest))))
+    (cond (c == 39) (made (λ unit. Char unit) (char_at rest))
+    (cond (c == 34) (made (λ units. Literal units) (text_at rest)) (made (λ k. Sign k) (sign_at (c ∷ rest)))))))

@@ -6,18 +6,22 @@
 //! ```
 //!
 //! `token_at` ([`specs/Tokens`]) says which token a text begins with, and what stands behind it. So a text is cut into tokens in one
-//! way ([`one_cut`]). The functions here read the parts: what stands between tokens, words, digits and their suffix, signs. A
-//! [`Token`] is what grammars are made over, by its kind.
+//! way ([`one_cut`]). [`behind_gap`] passes over what stands between tokens, and [`Token::first`] reads the token that a text
+//! begins with. A [`Token`] owns nothing: it names the place in the text where it stands, and is what grammars are made over, by
+//! its kind. Its value, a [`Lexeme`], is made where it is asked for.
 #![tactic(auto)]
 
+mod fronts;
 mod gaps;
+mod lexeme;
 mod numbers;
+mod pieces;
+mod quotes;
 mod signs;
 mod tokens;
 mod words;
 
-pub use gaps::gap;
-pub use numbers::{number, suffix};
-pub use signs::sign;
-pub use tokens::{Lexeme, Suffix, Token, one_cut};
-pub use words::{keyword_number, word_length};
+pub use fronts::{before, split_first};
+pub use gaps::behind_gap;
+pub use lexeme::{Lexeme, Suffix};
+pub use tokens::{Token, one_cut};

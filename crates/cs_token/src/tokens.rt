@@ -1,51 +1,87 @@
 // Tokens.
 
-ghost use Rattle.std.specs.Prelude.{◌≡◌};
-ghost use Rattle.cs_token.specs.Tokens.{kind_of as kind_of_lexeme, HasOneCut};
+ghost use Rattle.std.specs.Prelude.{◌≡◌, IfNone, IfSome, IfOk, Some, None};
+ghost use Rattle.std.specs.Str.{chars};
+ghost use Rattle.cs_token.specs.Tokens.{kind_of as kind_of_lexeme, token_at};
+ghost use Rattle.cs_token.specs.Cuts.{HasOneCut};
+ghost use Rattle.cs_token.specs.Pieces.{Passes};
 
+use crate::Lexeme;
+use crate::pieces::first_piece;
 use cs_grammar::Kinded;
-use dc_base::{Text, Text16};
+use dc_base::NoMemory;
+use std::alloc::Global;
+use std::marker::Model;
 
-/// What stands behind a number's digits (ECMA-334, 6.4.5.3): nothing, `U`, `L` or `UL`.
-#[derive(Clone, Copy, Debug, PartialEq, Eq)]
-pub enum Suffix {
-    Plain,
-    Unsigned,
-    Long,
-    UnsignedLong,
+/// A token, which contracts see as its value with its line and its column. It names the place in the text where it stands.
+#[derive(Drop)]
+pub struct Token<'a> {
+    text: &'a str,
+    kind: u16,
+    line: u32,
+    column: u32,
 }
 
-/// A token without its place. A keyword and a sign are known by their number, which is 0 for the first of its list.
-#[derive(Debug, Drop)]
-pub enum Lexeme {
-    /// Without the `@` that stands before a keyword.
-    Name(Text),
-    Keyword(u8),
-    Number(u64, Suffix),
-    Char(u16),
-    Literal(Text16),
-    Sign(u8),
+impl<'a> Model for Token<'a> {
+    ghost use Rattle.cs_token.specs.Placed.{Placed, Begins, lexeme_at};
+
+    ghost Value = { Placed };
+
+    ghost view = { λ t. record { lexeme = lexeme_at t.text.now; line = t.line; column = t.column } };
+
+    ghost invariant = { λ t. Begins t.text.now t.kind };
 }
 
-/// A token with its line and its column, which count lines and characters from 1.
-#[derive(Debug, Drop)]
-pub struct Token {
-    pub lexeme: Lexeme,
-    pub line: usize,
-    pub column: usize,
-}
-
-impl Kinded for Token {
+impl<'a> Kinded for Token<'a> {
     ghost kind_of = { λ t. kind_of_lexeme t.lexeme };
 
     fn kind(&self) -> u16 {
-        match &self.lexeme {
-            Lexeme::Name(_) => 0,
-            Lexeme::Number(_, _) => 1,
-            Lexeme::Char(_) => 2,
-            Lexeme::Literal(_) => 3,
-            Lexeme::Sign(sign) => 10 + u16::from(*sign),
-            Lexeme::Keyword(keyword) => 60 + u16::from(*keyword),
+        self.kind
+    }
+}
+
+impl<'a> Token<'a> {
+    /// The token that a text begins with, at this place, and what stands behind it.
+    pub fn first(text: &'a str, line: u32, column: u32) -> Option<(Token<'a>, &'a str)>
+        ensures none { IfNone result (token_at (chars text.now) ≡ None) }
+        ensures some { IfSome result (λ p. token_at (chars text.now) ≡ Some (p.0.lexeme, chars p.1.now)) }
+        ensures placed { IfSome result (λ p. (p.0.line ≡ line) × (p.0.column ≡ column)) }
+        ensures passes { IfSome result (λ p. Passes p.1.now text.now) }
+    {
+        let (piece, rest) = first_piece(text)?;
+        let kind = piece.kind();
+        Some((
+            Token {
+                text,
+                kind,
+                line,
+                column,
+            },
+            rest,
+        ))
+    }
+
+    /// Counted from 1.
+    pub fn line(&self) -> usize
+        ensures { result ≡ self.now.line }
+    {
+        self.line as usize
+    }
+
+    /// Counted from 1, in characters.
+    pub fn column(&self) -> usize
+        ensures { result ≡ self.now.column }
+    {
+        self.column as usize
+    }
+
+    /// The token's value, made anew.
+    pub fn lexeme(&self, alloc: Global) -> Result<Lexeme, NoMemory>
+        ensures { IfOk result (λ lexeme. lexeme ≡ self.now.lexeme) }
+    {
+        match first_piece(self.text) {
+            Some((piece, _)) => piece.lexeme(alloc),
+            None => unreachable!(),
         }
     }
 }

@@ -1,0 +1,12 @@
+-- The characters so far are part of the word.
+use Rattle.std.proofs.Common.{length}
+use denote.Text.{Utf8}
+use denote.Shadow.{shadow}
+use Rattle.cs_token.proofs.SoFar.{Passed}
+use Rattle.cs_token.proofs.words.split_word.Given as goal
+
+abbrev pub invariant-loop-rest : goal.invariant-loop-rest
+invariant-loop-rest l = shadow (Utf8 l.left) × Passed l.text l.left
+
+abbrev pub decreases-loop-rest : goal.decreases-loop-rest
+decreases-loop-rest l = length l.left
