@@ -1,7 +1,7 @@
 -- More levels read no less, for what asks for room by height.
 use Rattle.std.proofs.Common.{◌≡◌, inl, inr, ℕ, zero, suc, ◌+◌, ◌<◌, ◌≤◌, Bool, true, false, cond, ◌||◌, List, [], ◌∷◌, ◌++◌, length, refl, sym, ◌∙◌, ap, subst, nat_lt, Ok, Err, arith}
 use Rattle.std.proofs.lemmas.Bool.{ltb-true, lt-ltb}
-use Rattle.cs_token.specs.declared.tokens.Token.{Token}
+use Rattle.cs_token.specs.Placed.{Placed as Token}
 use Rattle.cs_productions.specs.declared.values.Measured.{Measured}
 use Rattle.cs_grammar.specs.Kinds.{has, begins, subset}
 use Rattle.cs_grammar.specs.Grammar.{Read, Grammar, and_then, either, guarded, turns, read_rounds}

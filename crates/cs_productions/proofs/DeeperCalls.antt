@@ -1,7 +1,7 @@
 -- Arguments and what stands behind a primary expression, with more levels.
 use Rattle.std.proofs.Common.{◌≡◌, ℕ, zero, suc, ◌+◌, ◌<◌, ◌≤◌, true, false, List, [], ◌∷◌, ◌++◌, refl, nat_lt, arith}
 use Rattle.std.proofs.lemmas.Bool.{ltb-true, lt-ltb}
-use Rattle.cs_token.specs.declared.tokens.Token.{Token}
+use Rattle.cs_token.specs.Placed.{Placed as Token}
 use Rattle.cs_tree.specs.declared.types.Name.{Name}
 use Rattle.cs_productions.specs.declared.values.Measured.{Measured}
 use Rattle.cs_productions.specs.declared.values.Args.{Args}

@@ -1,7 +1,7 @@
 -- Primary expressions without parentheses, with more levels.
 use Rattle.std.proofs.Common.{◌≡◌, ℕ, ◌+◌, ◌-◌, ◌<◌, ◌≤◌, max, true, false, List, [], ◌∷◌, ◌++◌, refl, nat_lt, arith}
 use Rattle.std.proofs.lemmas.Bool.{ltb-true}
-use Rattle.cs_token.specs.declared.tokens.Token.{Token}
+use Rattle.cs_token.specs.Placed.{Placed as Token}
 use Rattle.cs_tree.specs.declared.types.Spot.{Spot}
 use Rattle.cs_tree.specs.declared.types.TypeForm.{TypeForm}
 use Rattle.cs_tree.specs.declared.forms.Form.TheVariants as form
@@ -23,7 +23,7 @@ use Rattle.cs_productions.specs.Calls.{postfixes}
 use Rattle.cs_productions.specs.Primaries.{base_call, of_base, global_call, path_alone, called_path, indexed, behind_path, global_path, global_leaf, of_global, new_object, of_new_object, new_array, with_member, behind_array, of_new_array, of_new, default_of, of_default, checked_of, of_checked, of_simple}
 use Rattle.cs_productions.proofs.Follow.{type_kinds, postfix_follow, AreExact}
 use Rattle.cs_productions.proofs.ExactTokens.{sample, sample_of, global_sample, exact_sign, exact_any_name}
-use Rattle.cs_token.specs.declared.tokens.Lexeme.TheVariants as lexeme
+use Rattle.cs_token.specs.declared.lexeme.Lexeme.TheVariants as lexeme
 use Rattle.cs_productions.proofs.ExactTypes.{exact_path, exact_named_type, exact_ranks, exact_ty}
 use Rattle.cs_productions.proofs.ExactCalls.{exact_arguments, exact_called, exact_one_member, exact_one_index, exact_postfixes}
 use Rattle.cs_productions.proofs.ExactPrimaries.{exact_global_path, exact_called_path, exact_indexed, exact_of_new_object, exact_with_member, exact_behind_array, exact_of_new_array}

@@ -5,7 +5,7 @@ use Rattle.cs_tree.specs.declared.types.TypeForm.{TypeForm}
 use Rattle.cs_tree.specs.declared.types.Param.{Param}
 use Rattle.cs_tree.specs.declared.types.Way.{Way}
 use Rattle.cs_tree.specs.declared.types.Way.TheVariants as passed
-use Rattle.cs_token.specs.declared.tokens.Token.{Token}
+use Rattle.cs_token.specs.Placed.{Placed as Token}
 use Rattle.cs_grammar.specs.Grammar.{Grammar, gives, ◌>>=◌}
 use Rattle.cs_grammar.specs.Exact.{Exact}
 use Rattle.cs_grammar.specs.Whole.{Deeper}

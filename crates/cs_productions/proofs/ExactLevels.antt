@@ -1,6 +1,6 @@
 -- Expressions within a number of levels are exact.
 use Rattle.std.proofs.Common.{◌≡◌, ℕ, zero, suc, true, false, List, [], ◌∷◌, refl}
-use Rattle.cs_token.specs.declared.tokens.Token.{Token}
+use Rattle.cs_token.specs.Placed.{Placed as Token}
 use Rattle.cs_tree.specs.declared.forms.Block.{Block}
 use Rattle.cs_productions.specs.declared.values.Measured.{Measured}
 use Rattle.cs_productions.specs.declared.values.Part.{Part}
@@ -16,10 +16,10 @@ use Rattle.cs_productions.specs.Primaries.{global_leaf}
 use Rattle.cs_productions.specs.Levels.{forms_at, at, name_alone, led_alone, lowest, below, within}
 use Rattle.cs_productions.proofs.Follow.{kinds_of, follow_of, whole_follow, AreExact}
 use Rattle.cs_productions.proofs.ExactTokens.{sample, global_sample}
-use Rattle.cs_token.specs.declared.tokens.Lexeme.TheVariants as lexeme
+use Rattle.cs_token.specs.declared.lexeme.Lexeme.TheVariants as lexeme
 use Rattle.cs_productions.proofs.ExactOperators.{exact_operand, exact_unary, exact_plain_unary, exact_multiplicative, exact_additive, exact_shift, exact_relational, exact_equality, exact_and, exact_exclusive_or, exact_inclusive_or, exact_conditional_and, exact_conditional, exact_lead}
 
-exact_forms_at : {inner : Inner} (n : ℕ) (p : Part) → AreExact inner → Exact kind (forms_at n inner p) (kinds_of p) (follow_of p) false
+pub exact_forms_at : {inner : Inner} (n : ℕ) (p : Part) → AreExact inner → Exact kind (forms_at n inner p) (kinds_of p) (follow_of p) false
 exact_forms_at n part.Operand x = exact_operand n x
 exact_forms_at n part.Unary x = exact_unary n x
 exact_forms_at n part.Multiplicative x = wider refl refl (then (exact_unary n x) refl (λ a. exact_multiplicative n a x))

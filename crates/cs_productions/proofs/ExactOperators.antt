@@ -1,6 +1,6 @@
 -- Parentheses, casts, lambdas and operators are exact.
 use Rattle.std.proofs.Common.{◌≡◌, ℕ, true, false, List, [], ◌∷◌, ◌++◌, Option, Some, None, refl, nat_lt}
-use Rattle.cs_token.specs.declared.tokens.Token.{Token}
+use Rattle.cs_token.specs.Placed.{Placed as Token}
 use Rattle.cs_tree.specs.declared.types.Spot.{Spot}
 use Rattle.cs_tree.specs.declared.types.TypeForm.{TypeForm}
 use Rattle.cs_tree.specs.declared.types.Param.{Param}

@@ -1,8 +1,8 @@
 -- Single tokens are exact.
 use Rattle.std.proofs.Common.{◌≡◌, ℕ, ◌-◌, true, false, List, [], ◌∷◌, refl, codes}
-use Rattle.cs_token.specs.declared.tokens.Token.{Token}
-use Rattle.cs_token.specs.declared.tokens.Lexeme.{Lexeme}
-use Rattle.cs_token.specs.declared.tokens.Lexeme.TheVariants as lexeme
+use Rattle.cs_token.specs.Placed.{Placed as Token}
+use Rattle.cs_token.specs.declared.lexeme.Lexeme.{Lexeme}
+use Rattle.cs_token.specs.declared.lexeme.Lexeme.TheVariants as lexeme
 use Rattle.cs_grammar.specs.Kinds.{has}
 use Rattle.cs_grammar.specs.Grammar.{one}
 use Rattle.cs_grammar.specs.Exact.{Exact}

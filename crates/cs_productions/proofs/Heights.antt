@@ -1,7 +1,7 @@
 -- What is read within a number of levels is no higher.
 use Rattle.std.proofs.Common.{◌≡◌, inl, inr, ℕ, zero, suc, ◌+◌, ◌-◌, ◌<◌, ◌≤◌, max, Bool, true, false, cond, List, [], ◌∷◌, ◌++◌, Option, Some, None, refl, sym, ◌∙◌, ap, subst, nat_lt, Ok, Err, arith}
 use Rattle.std.proofs.lemmas.Bool.{ltb-true}
-use Rattle.cs_token.specs.declared.tokens.Token.{Token}
+use Rattle.cs_token.specs.Placed.{Placed as Token}
 use Rattle.cs_tree.specs.declared.types.Spot.{Spot}
 use Rattle.cs_tree.specs.declared.types.Name.{Name}
 use Rattle.cs_tree.specs.declared.types.TypeForm.{TypeForm}

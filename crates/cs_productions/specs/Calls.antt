@@ -1,7 +1,7 @@
 -- Arguments and what stands behind a primary expression (ECMA-334, 12.6.2, 12.8.7, 12.8.10, 12.8.12). The number `n` says how many
 -- levels there may be.
 use Rattle.std.specs.Prelude.{◌≡◌, ℕ, ◌+◌, max, true, false, List, [], ◌∷◌, ◌++◌, nat_lt}
-use Rattle.cs_token.specs.declared.tokens.Token.{Token}
+use Rattle.cs_token.specs.Placed.{Placed as Token}
 use Rattle.cs_tree.specs.declared.types.Spot.{Spot}
 use Rattle.cs_tree.specs.declared.types.Name.{Name}
 use Rattle.cs_tree.specs.declared.types.Way.{Way}

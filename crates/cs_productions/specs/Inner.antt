@@ -1,6 +1,6 @@
 -- What an operator, a call, a cast, a lambda or a pair of parentheses is made of: expressions with one level less.
 use Rattle.std.specs.Prelude.{ℕ}
-use Rattle.cs_token.specs.declared.tokens.Token.{Token}
+use Rattle.cs_token.specs.Placed.{Placed as Token}
 use Rattle.cs_tree.specs.declared.forms.Block.{Block}
 use Rattle.cs_productions.specs.declared.values.Measured.{Measured}
 use Rattle.cs_productions.specs.declared.values.Lead.{Lead}

@@ -1,6 +1,6 @@
 -- Expressions within a number of levels: each operator, call, cast, lambda and pair of parentheses on a path is one.
 use Rattle.std.specs.Prelude.{ℕ, zero, suc, ◌∷◌, []}
-use Rattle.cs_token.specs.declared.tokens.Token.{Token}
+use Rattle.cs_token.specs.Placed.{Placed as Token}
 use Rattle.cs_tree.specs.declared.forms.Block.{Block}
 use Rattle.cs_productions.specs.declared.values.Measured.{Measured}
 use Rattle.cs_productions.specs.declared.values.Lead.{Lead}

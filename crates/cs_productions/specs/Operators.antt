@@ -1,6 +1,6 @@
 -- Parentheses, casts, lambdas and operators (ECMA-334, 12.8.5, 12.9 to 12.14, 12.18 and 12.19).
 use Rattle.std.specs.Prelude.{◌≡◌, ℕ, ◌+◌, max, true, cond, ◌==◌, List, [], ◌∷◌, Option, Some, None, nat_lt}
-use Rattle.cs_token.specs.declared.tokens.Token.{Token}
+use Rattle.cs_token.specs.Placed.{Placed as Token}
 use Rattle.cs_tree.specs.declared.types.Spot.{Spot}
 use Rattle.cs_tree.specs.declared.types.Name.{Name}
 use Rattle.cs_tree.specs.declared.types.TypeForm.{TypeForm}

@@ -1,6 +1,6 @@
 -- Primary expressions without parentheses (ECMA-334, 12.8).
 use Rattle.std.specs.Prelude.{◌≡◌, ℕ, ◌+◌, ◌-◌, max, true, List, [], ◌∷◌, ◌==◌, cond, nat_lt}
-use Rattle.cs_token.specs.declared.tokens.Token.{Token}
+use Rattle.cs_token.specs.Placed.{Placed as Token}
 use Rattle.cs_tree.specs.declared.types.Spot.{Spot}
 use Rattle.cs_tree.specs.declared.types.Name.{Name}
 use Rattle.cs_tree.specs.declared.types.TypeForm.{TypeForm}

@@ -1,11 +1,9 @@
 -- Single tokens, and what they leave in a tree.
 use Rattle.std.specs.Prelude.{◌≡◌, ℕ, ◌+◌, true, false, cond, ◌==◌, List, [], ◌∷◌, codes}
-use Rattle.std.specs.Str.{bytes_eq}
-use Rattle.cs_token.specs.declared.tokens.Token.{Token}
-use Rattle.cs_token.specs.declared.tokens.Lexeme.{Lexeme}
-use Rattle.cs_token.specs.declared.tokens.Lexeme.TheVariants as lexeme
-use Rattle.cs_token.specs.declared.tokens.Suffix.TheVariants.{Plain}
-use Rattle.cs_token.specs.declared.tokens.Suffix.{Suffix}
+use Rattle.cs_token.specs.Placed.{Placed as Token}
+use Rattle.cs_token.specs.Tokens.{kind_of}
+use Rattle.cs_token.specs.declared.lexeme.Lexeme.{Lexeme}
+use Rattle.cs_token.specs.declared.lexeme.Lexeme.TheVariants as lexeme
 use Rattle.cs_tree.specs.declared.types.Spot.{Spot}
 use Rattle.cs_tree.specs.declared.types.Name.{Name}
 use Rattle.cs_tree.specs.declared.types.KeywordType.{KeywordType}
@@ -25,23 +23,6 @@ use Rattle.cs_grammar.specs.Grammar.{Grammar, one}
 use Rattle.cs_productions.specs.Kinds.{name, number, character, text, global, getter, setter, indexer, suffixed, names, keyword_types, simple_kinds, unary_operators, kw_bool, kw_char, kw_sbyte, kw_byte, kw_short, kw_ushort, kw_int, kw_uint, kw_long, kw_ulong, kw_object, kw_ref, kw_out, kw_true, kw_this, kw_null, bang, tilde, times, slash, percent, plus, minus, shift_left, shift_right, less, greater, at_most, at_least, equal, unequal, amp, caret, bar, both}
 
 -- the kind of a token
-abbrev pub kind_of_name : List ℕ → ℕ
-kind_of_name t =
-    cond (bytes_eq t (codes "global")) global
-    (cond (bytes_eq t (codes "get")) getter (cond (bytes_eq t (codes "set")) setter (cond (bytes_eq t (codes "indexer")) indexer name)))
-
-abbrev pub kind_of_number : Suffix → ℕ
-kind_of_number Plain = number
-kind_of_number _ = suffixed
-
-abbrev pub kind_of : Lexeme → ℕ
-kind_of (lexeme.Name t) = kind_of_name t
-kind_of (lexeme.Number n s) = kind_of_number s
-kind_of (lexeme.Char unit) = character
-kind_of (lexeme.Literal units) = text
-kind_of (lexeme.Sign k) = 10 + k
-kind_of (lexeme.Keyword k) = 60 + k
-
 abbrev pub kind : Token → ℕ
 kind t = kind_of t.lexeme
 

@@ -1,6 +1,6 @@
 -- Paths, types and parameters (ECMA-334, 7.8, 8 and 15.6.2).
 use Rattle.std.specs.Prelude.{◌≡◌, ℕ, ◌+◌, true, List, [], ◌∷◌, ◌++◌, nat_lt}
-use Rattle.cs_token.specs.declared.tokens.Token.{Token}
+use Rattle.cs_token.specs.Placed.{Placed as Token}
 use Rattle.cs_tree.specs.declared.types.Spot.{Spot}
 use Rattle.cs_tree.specs.declared.types.Name.{Name}
 use Rattle.cs_tree.specs.declared.types.TypeName.{TypeName}

@@ -1,6 +1,6 @@
 -- Declarations, assignments and calls as statements (ECMA-334, 12.21, 13.6.2, 13.7).
 use Rattle.std.specs.Prelude.{◌≡◌, ℕ, true, false, Bool, cond, ◌==◌, List, [], ◌∷◌, nat_lt}
-use Rattle.cs_token.specs.declared.tokens.Token.{Token}
+use Rattle.cs_token.specs.Placed.{Placed as Token}
 use Rattle.cs_tree.specs.declared.types.Spot.{Spot}
 use Rattle.cs_tree.specs.declared.types.Name.{Name}
 use Rattle.cs_tree.specs.declared.types.TypeForm.{TypeForm}

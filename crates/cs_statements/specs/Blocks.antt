@@ -1,7 +1,7 @@
 -- Blocks (ECMA-334, 13.3) within a number of blocks: each that is open in another takes one. A statement that can't do without a block
 -- is too deep where there is no room for one.
 use Rattle.std.specs.Prelude.{◌≡◌, ℕ, zero, suc, true, List, [], ◌∷◌, ◌++◌, nat_lt}
-use Rattle.cs_token.specs.declared.tokens.Token.{Token}
+use Rattle.cs_token.specs.Placed.{Placed as Token}
 use Rattle.cs_tree.specs.declared.types.Spot.{Spot}
 use Rattle.cs_tree.specs.declared.forms.Block.{Block}
 use Rattle.cs_tree.specs.declared.forms.Syntax.{Syntax}
