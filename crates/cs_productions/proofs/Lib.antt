@@ -14,3 +14,4 @@ pub mod DeeperCalls
 pub mod DeeperPrimaries
 pub mod DeeperOperators
 pub mod DeeperLevels
+pub mod OneAnswers

@@ -7,3 +7,4 @@ pub mod Calls
 pub mod Primaries
 pub mod Operators
 pub mod Levels
+pub mod Laws

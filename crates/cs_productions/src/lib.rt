@@ -8,6 +8,8 @@
 //! without an operator in front, [`specs/Operators`] casts, unary operators and the levels of two-place ones.
 #![tactic(auto)]
 
+mod laws;
 mod values;
 
+pub use laws::{one_param, one_type};
 pub use values::{Args, Lead, Measured, Part};

@@ -35,30 +35,30 @@ exact_expression n x = exact_forms_at n Whole x
 pub exact_labelled : (s : Spot) (label : List ℕ) → Exact kind (labelled s label) (colon ∷ []) [] false
 exact_labelled s label = wider refl refl (then (exact_sign colon refl) refl (λ _. then (exact_sign semicolon refl) refl (λ _. exact_gives _)))
 
-exact_value_given : {inner : Inner} (n : ℕ) → AreExact inner → Exact kind (value_given n inner) expression_kinds [] false
+pub exact_value_given : {inner : Inner} (n : ℕ) → AreExact inner → Exact kind (value_given n inner) expression_kinds [] false
 exact_value_given n x = wider refl refl (then (exact_expression n x) refl (λ a. then (exact_sign semicolon refl) refl (λ _. exact_gives _)))
 
-exact_no_value : Exact kind no_value (semicolon ∷ []) [] false
+pub exact_no_value : Exact kind no_value (semicolon ∷ []) [] false
 exact_no_value = wider refl refl (then (exact_sign semicolon refl) refl (λ _. exact_gives _))
 
-exact_value : {inner : Inner} (n : ℕ) → AreExact inner → Exact kind (value n inner) (semicolon ∷ expression_kinds) [] false
+pub exact_value : {inner : Inner} (n : ℕ) → AreExact inner → Exact kind (value n inner) (semicolon ∷ expression_kinds) [] false
 exact_value n x = wider refl refl (or expression_kinds refl refl (exact_value_given n x) exact_no_value)
 
-exact_of_goto : Exact kind of_goto (kw_goto ∷ []) [] false
+pub exact_of_goto : Exact kind of_goto (kw_goto ∷ []) [] false
 exact_of_goto =
     wider refl refl
     (then (exact_place kw_goto refl) refl (λ s. then exact_name_text refl (λ label. then (exact_sign semicolon refl) refl (λ _. exact_gives _))))
 
-exact_of_break : Exact kind of_break (kw_break ∷ []) [] false
+pub exact_of_break : Exact kind of_break (kw_break ∷ []) [] false
 exact_of_break = wider refl refl (then (exact_place kw_break refl) refl (λ s. then (exact_sign semicolon refl) refl (λ _. exact_gives _)))
 
-exact_of_continue : Exact kind of_continue (kw_continue ∷ []) [] false
+pub exact_of_continue : Exact kind of_continue (kw_continue ∷ []) [] false
 exact_of_continue = wider refl refl (then (exact_place kw_continue refl) refl (λ s. then (exact_sign semicolon refl) refl (λ _. exact_gives _)))
 
-exact_of_return : {inner : Inner} (n : ℕ) → AreExact inner → Exact kind (of_return n inner) (kw_return ∷ []) [] false
+pub exact_of_return : {inner : Inner} (n : ℕ) → AreExact inner → Exact kind (of_return n inner) (kw_return ∷ []) [] false
 exact_of_return n x = wider refl refl (then (exact_place kw_return refl) refl (λ s. then (exact_value n x) refl (λ v. exact_gives _)))
 
-exact_of_throw : {inner : Inner} (n : ℕ) → AreExact inner → Exact kind (of_throw n inner) (kw_throw ∷ []) [] false
+pub exact_of_throw : {inner : Inner} (n : ℕ) → AreExact inner → Exact kind (of_throw n inner) (kw_throw ∷ []) [] false
 exact_of_throw n x = wider refl refl (then (exact_place kw_throw refl) refl (λ s. then (exact_value n x) refl (λ v. exact_gives _)))
 
 pub exact_jump : {inner : Inner} (n : ℕ) → AreExact inner → Exact kind (jump n inner) jump_kinds [] false
@@ -81,21 +81,21 @@ exact_keyword_declared {inner = inner} n x = wider refl refl (then (exact_type_o
 
 -- assignments and calls
 
-exact_assigned : {inner : Inner} (n : ℕ) (p : Measured) → AreExact inner → Exact kind (assigned n inner p) (equals ∷ []) whole_follow false
+pub exact_assigned : {inner : Inner} (n : ℕ) (p : Measured) → AreExact inner → Exact kind (assigned n inner p) (equals ∷ []) whole_follow false
 exact_assigned n p x = wider refl refl (then (exact_sign equals refl) refl (λ _. then (exact_expression n x) refl (λ a. exact_gives _)))
 
-exact_compounded : {inner : Inner} (n : ℕ) (p : Measured) → AreExact inner → Exact kind (compounded n inner p) compound_operators whole_follow false
+pub exact_compounded : {inner : Inner} (n : ℕ) (p : Measured) → AreExact inner → Exact kind (compounded n inner p) compound_operators whole_follow false
 exact_compounded n p x =
     wider refl refl (then (exact_one compound_operators kind (sample_of plus_equals) refl) refl (λ k. then (exact_expression n x) refl (λ a. exact_gives _)))
 
-exact_set_to : {inner : Inner} (n : ℕ) (p : Measured) → AreExact inner → Exact kind (set_to n inner p) (equals ∷ compound_operators) whole_follow false
+pub exact_set_to : {inner : Inner} (n : ℕ) (p : Measured) → AreExact inner → Exact kind (set_to n inner p) (equals ∷ compound_operators) whole_follow false
 exact_set_to n p x = wider refl refl (or (equals ∷ []) refl refl (exact_assigned n p x) (exact_compounded n p x))
 
 -- what stands behind a place or a call, up to the end of the action
 abbrev pub action_kinds : List ℕ
 action_kinds = equals ∷ semicolon ∷ unparen ∷ compound_operators
 
-exact_action : {inner : Inner} (n : ℕ) (is_call : Bool) (p : Measured) → AreExact inner → Exact kind (action_to n inner semicolon is_call p) action_kinds [] false
+pub exact_action : {inner : Inner} (n : ℕ) (is_call : Bool) (p : Measured) → AreExact inner → Exact kind (action_to n inner semicolon is_call p) action_kinds [] false
 exact_action n true p x =
     wider refl refl
     (then (or (equals ∷ compound_operators) refl refl (exact_set_to n p x) (exact_gives (invoke_of p))) refl (λ a. then (exact_sign semicolon refl) refl (λ _. exact_gives a)))
@@ -155,27 +155,27 @@ exact_named_statement n x =
     (then (exact_one name_kinds (λ t. t) (sample (lexeme.Name [])) refl) refl
     (λ t. or (colon ∷ []) refl refl (exact_labelled _ _) (exact_postfix_act n (simple_of t) x)))
 
-exact_index_act : {inner : Inner} (n : ℕ) (a : Measured) → AreExact inner → Exact kind (index_act n inner a) expression_kinds [] false
+pub exact_index_act : {inner : Inner} (n : ℕ) (a : Measured) → AreExact inner → Exact kind (index_act n inner a) expression_kinds [] false
 exact_index_act n a x =
     wider refl refl (then (x.forms Whole) refl (λ i. then (exact_sign unbracket refl) refl (λ _. exact_postfix_act n _ x)))
 
-exact_array_declared : {inner : Inner} (n : ℕ) (t : TypeForm) → AreExact inner → Exact kind (array_declared n inner t) (unbracket ∷ []) [] false
+pub exact_array_declared : {inner : Inner} (n : ℕ) (t : TypeForm) → AreExact inner → Exact kind (array_declared n inner t) (unbracket ∷ []) [] false
 exact_array_declared {inner = inner} n t x =
     wider refl refl (then (exact_sign unbracket refl) refl (λ _. then (exact_ranks inner.ranks _) refl (λ u. exact_declared n u x)))
 
-exact_bracket_statement : {inner : Inner} (n : ℕ) (s : Spot) (path_names : List (List ℕ)) → AreExact inner → Exact kind (bracket_statement n inner s path_names) (bracket ∷ []) [] false
+pub exact_bracket_statement : {inner : Inner} (n : ℕ) (s : Spot) (path_names : List (List ℕ)) → AreExact inner → Exact kind (bracket_statement n inner s path_names) (bracket ∷ []) [] false
 exact_bracket_statement n s path_names x =
     wider refl refl
     (then (exact_sign bracket refl) refl
     (λ _. guard expression_kinds (nat_lt 0 n) refl refl (exact_index_act n (path_alone s path_names) x) (exact_array_declared n (global_type s path_names) x)))
 
-exact_called_or_alone : {inner : Inner} (n : ℕ) (s : Spot) (path_names : List (List ℕ)) → AreExact inner → Exact kind (called_or_alone n inner s path_names) (paren ∷ []) postfix_follow true
+pub exact_called_or_alone : {inner : Inner} (n : ℕ) (s : Spot) (path_names : List (List ℕ)) → AreExact inner → Exact kind (called_or_alone n inner s path_names) (paren ∷ []) postfix_follow true
 exact_called_or_alone n s path_names x = wider refl refl (guard (paren ∷ []) (nat_lt 0 n) refl refl (exact_called_path n s path_names x) (exact_gives _))
 
-exact_path_act : {inner : Inner} (n : ℕ) (s : Spot) (path_names : List (List ℕ)) → AreExact inner → Exact kind (path_act n inner s path_names) (paren ∷ action_kinds) [] false
+pub exact_path_act : {inner : Inner} (n : ℕ) (s : Spot) (path_names : List (List ℕ)) → AreExact inner → Exact kind (path_act n inner s path_names) (paren ∷ action_kinds) [] false
 exact_path_act n s path_names x = wider refl refl (then (exact_called_or_alone n s path_names x) refl (λ p. exact_act n p x))
 
-exact_path_statement : {inner : Inner} (n : ℕ) (s : Spot) → AreExact inner → Exact kind (path_statement n inner s) (colons ∷ []) [] false
+pub exact_path_statement : {inner : Inner} (n : ℕ) (s : Spot) → AreExact inner → Exact kind (path_statement n inner s) (colons ∷ []) [] false
 exact_path_statement n s x =
     wider refl refl
     (then (exact_sign colons refl) refl

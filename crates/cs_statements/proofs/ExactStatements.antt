@@ -32,35 +32,35 @@ use Rattle.cs_statements.specs.Structured.{tested, keyword_block, maybe_block, o
 use Rattle.cs_statements.specs.Blocks.{simple_statement, statement, one_more_statement, braced, empty_block, block_at}
 use Rattle.cs_statements.proofs.ExactActions.{exact_expression, exact_jump, exact_keyword_declared, exact_step, exact_primary, exact_primary_act, exact_named_statement, exact_global_statement}
 
-exact_tested : {inner : Inner} (n : ℕ) → AreExact inner → Exact kind (tested n inner) (paren ∷ []) [] false
+pub exact_tested : {inner : Inner} (n : ℕ) → AreExact inner → Exact kind (tested n inner) (paren ∷ []) [] false
 exact_tested n x =
     wider refl refl (then (exact_sign paren refl) refl (λ _. then (exact_expression n x) refl (λ a. then (exact_sign unparen refl) refl (λ _. exact_gives a))))
 
-exact_else : {inner : Inner} → AreExact inner → Exact kind (maybe_block inner kw_else) (kw_else ∷ []) (kw_else ∷ []) true
+pub exact_else : {inner : Inner} → AreExact inner → Exact kind (maybe_block inner kw_else) (kw_else ∷ []) (kw_else ∷ []) true
 exact_else x =
     wider refl refl (or (kw_else ∷ []) refl refl (then (exact_sign kw_else refl) refl (λ _. then x.block refl (λ b. exact_gives _))) (exact_gives _))
 
-exact_finally : {inner : Inner} → AreExact inner → Exact kind (maybe_block inner kw_finally) (kw_finally ∷ []) (kw_finally ∷ []) true
+pub exact_finally : {inner : Inner} → AreExact inner → Exact kind (maybe_block inner kw_finally) (kw_finally ∷ []) (kw_finally ∷ []) true
 exact_finally x =
     wider refl refl (or (kw_finally ∷ []) refl refl (then (exact_sign kw_finally refl) refl (λ _. then x.block refl (λ b. exact_gives _))) (exact_gives _))
 
-exact_of_if : {inner : Inner} (n : ℕ) → AreExact inner → Exact kind (of_if n inner) (kw_if ∷ []) (kw_else ∷ []) false
+pub exact_of_if : {inner : Inner} (n : ℕ) → AreExact inner → Exact kind (of_if n inner) (kw_if ∷ []) (kw_else ∷ []) false
 exact_of_if n x =
     wider refl refl
     (then (exact_place kw_if refl) refl (λ s. then (exact_tested n x) refl (λ a. then x.block refl (λ b. then (exact_else x) refl (λ c. exact_gives _)))))
 
-exact_of_while : {inner : Inner} (n : ℕ) → AreExact inner → Exact kind (of_while n inner) (kw_while ∷ []) [] false
+pub exact_of_while : {inner : Inner} (n : ℕ) → AreExact inner → Exact kind (of_while n inner) (kw_while ∷ []) [] false
 exact_of_while n x =
     wider refl refl (then (exact_place kw_while refl) refl (λ s. then (exact_tested n x) refl (λ a. then x.block refl (λ b. exact_gives _))))
 
-exact_of_do : {inner : Inner} (n : ℕ) → AreExact inner → Exact kind (of_do n inner) (kw_do ∷ []) [] false
+pub exact_of_do : {inner : Inner} (n : ℕ) → AreExact inner → Exact kind (of_do n inner) (kw_do ∷ []) [] false
 exact_of_do n x =
     wider refl refl
     (then (exact_place kw_do refl) refl
     (λ s. then x.block refl
     (λ b. then (exact_sign kw_while refl) refl (λ _. then (exact_tested n x) refl (λ a. then (exact_sign semicolon refl) refl (λ _. exact_gives _))))))
 
-exact_of_for : {inner : Inner} (n : ℕ) → AreExact inner → Exact kind (of_for n inner) (kw_for ∷ []) [] false
+pub exact_of_for : {inner : Inner} (n : ℕ) → AreExact inner → Exact kind (of_for n inner) (kw_for ∷ []) [] false
 exact_of_for n x =
     wider refl refl
     (then (exact_place kw_for refl) refl
@@ -70,7 +70,7 @@ exact_of_for n x =
     (λ a. then (exact_sign semicolon refl) refl
     (λ _. then (then (exact_primary n x) refl (λ (p : Measured). exact_step n p.is_call p x)) refl (λ c. then x.block refl (λ b. exact_gives _))))))))
 
-exact_of_foreach : {inner : Inner} (n : ℕ) → AreExact inner → Exact kind (of_foreach n inner) (kw_foreach ∷ []) [] false
+pub exact_of_foreach : {inner : Inner} (n : ℕ) → AreExact inner → Exact kind (of_foreach n inner) (kw_foreach ∷ []) [] false
 exact_of_foreach {inner = inner} n x =
     wider refl refl
     (then (exact_place kw_foreach refl) refl
@@ -80,7 +80,7 @@ exact_of_foreach {inner = inner} n x =
     (λ name. then (exact_sign kw_in refl) refl
     (λ _. then (exact_expression n x) refl (λ a. then (exact_sign unparen refl) refl (λ _. then x.block refl (λ b. exact_gives (foreach_of s t name a b))))))))))
 
-exact_of_using : {inner : Inner} (n : ℕ) → AreExact inner → Exact kind (of_using n inner) (kw_using ∷ []) [] false
+pub exact_of_using : {inner : Inner} (n : ℕ) → AreExact inner → Exact kind (of_using n inner) (kw_using ∷ []) [] false
 exact_of_using {inner = inner} n x =
     wider refl refl
     (then (exact_place kw_using refl) refl
@@ -90,19 +90,19 @@ exact_of_using {inner = inner} n x =
     (λ name. then (exact_sign equals refl) refl
     (λ _. then (exact_expression n x) refl (λ a. then (exact_sign unparen refl) refl (λ _. then x.block refl (λ b. exact_gives (using_of s t name a b))))))))))
 
-exact_of_lock : {inner : Inner} (n : ℕ) → AreExact inner → Exact kind (of_lock n inner) (kw_lock ∷ []) [] false
+pub exact_of_lock : {inner : Inner} (n : ℕ) → AreExact inner → Exact kind (of_lock n inner) (kw_lock ∷ []) [] false
 exact_of_lock n x =
     wider refl refl (then (exact_place kw_lock refl) refl (λ s. then (exact_tested n x) refl (λ a. then x.block refl (λ b. exact_gives _))))
 
 -- switch
 
-exact_case_label : Exact kind case_label (kw_case ∷ []) [] false
+pub exact_case_label : Exact kind case_label (kw_case ∷ []) [] false
 exact_case_label =
     wider refl refl
     (then (exact_place kw_case refl) refl
     (λ s. then (exact_one literal_kinds (λ t. literal_of t.lexeme) (sample (lexeme.Char 0)) refl) refl (λ v. then (exact_sign colon refl) refl (λ _. exact_gives _))))
 
-exact_default_label : Exact kind default_label (kw_default ∷ []) [] false
+pub exact_default_label : Exact kind default_label (kw_default ∷ []) [] false
 exact_default_label = wider refl refl (then (exact_place kw_default refl) refl (λ s. then (exact_sign colon refl) refl (λ _. exact_gives _)))
 
 pub exact_label : Exact kind label (kw_case ∷ kw_default ∷ []) [] false
@@ -145,7 +145,7 @@ exact_catching {inner = inner} x =
 pub exact_one_more_catching : {inner : Inner} (catches : List Catching) → AreExact inner → Exact kind (one_more_catching inner catches) (kw_catch ∷ []) [] false
 exact_one_more_catching catches x = wider refl refl (then (exact_catching x) refl (λ c. exact_gives _))
 
-exact_of_try : {inner : Inner} → AreExact inner → Exact kind (of_try inner) (kw_try ∷ []) (kw_catch ∷ kw_finally ∷ []) false
+pub exact_of_try : {inner : Inner} → AreExact inner → Exact kind (of_try inner) (kw_try ∷ []) (kw_catch ∷ kw_finally ∷ []) false
 exact_of_try x =
     wider refl refl
     (then (exact_place kw_try refl) refl
@@ -168,7 +168,7 @@ exact_structured n x =
     (or (kw_using ∷ []) refl refl (exact_of_using n x) (or (kw_lock ∷ []) refl refl (exact_of_lock n x) (exact_of_try x))))))))
 
 -- what a statement without a block of its own begins with
-abbrev simple_kinds : List ℕ
+abbrev pub simple_kinds : List ℕ
 simple_kinds = keyword_types ++ (global ∷ name_kinds ++ (unnamed_primary_kinds ++ (jump_kinds ++ kw_switch ∷ [])))
 
 pub exact_simple_statement : {inner : Inner} (n : ℕ) → AreExact inner → Exact kind (simple_statement n inner) simple_kinds [] false
@@ -194,7 +194,7 @@ exact_braced x =
     (λ _. then (repeat statement_kinds (λ _. true) [] refl refl (λ stmts. exact_one_more_statement stmts x)) refl
     (λ stmts. then (exact_place unbrace refl) refl (λ end. exact_gives _))))
 
-exact_empty_block : Exact kind empty_block (brace ∷ []) [] false
+pub exact_empty_block : Exact kind empty_block (brace ∷ []) [] false
 exact_empty_block = wider refl refl (then (exact_sign brace refl) refl (λ _. then (exact_place unbrace refl) refl (λ end. exact_gives _)))
 
 pub exact_block_at : (levels ranks blocks : ℕ) → Exact kind (block_at levels ranks blocks) (brace ∷ []) [] false

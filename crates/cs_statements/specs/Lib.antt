@@ -4,3 +4,4 @@ pub mod Jumps
 pub mod Actions
 pub mod Structured
 pub mod Blocks
+pub mod Laws

@@ -6,3 +6,7 @@
 //!
 //! [`specs/Jumps`], [`specs/Actions`] and [`specs/Structured`] have the statements, [`specs/Blocks`] blocks within a number of blocks.
 #![tactic(auto)]
+
+mod laws;
+
+pub use laws::{one_block, one_expression};
