@@ -1,0 +1,4 @@
+use Rattle.class_members.proofs.sign.least_twin.Goals as goal
+
+pub returns : goal.returns
+returns c = ?
