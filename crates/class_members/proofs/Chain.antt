@@ -2,6 +2,9 @@
 use Rattle.std.proofs.Common.{◌≡◌, ◌⊎◌, ℕ, suc, ◌+◌, ◌<◌, ◌≤◌, Bool, true, false, Option, Some, None, List, [], ◌∷◌, length, refl, sym, ◌∙◌, ap, subst, inl, inr, arith}
 use Rattle.std.proofs.Math.ListN.{set, length-set}
 use Rattle.std.specs.List.{slice_get}
+use Rattle.std.specs.Prelude.{IfSome, IfNone}
+use Rattle.std.proofs.lemmas.Bool.{cases_lt}
+use Rattle.std.proofs.lemmas.List.{set_past}
 use Rattle.dc_base.specs.declared.names.TypeId.{TypeId}
 use Rattle.class_chains.specs.Ends.{Reaches, here, further, IsAboveFirst}
 use Rattle.class_rows.specs.declared.row.TypeRow.{TypeRow}
@@ -107,3 +110,15 @@ marking_ends types t old flags so = record {
 pub next_is_lower : (types : List TypeRow) (order : List ℕ) (at : TypeId) (next : Option TypeId) → IsAboveFirst (IsAbove types) (length types) order → IsNext types at.0 next → left_of types order next < left_of types order (Some at)
 next_is_lower types order at None first none = omega arith
 next_is_lower types order at (Some b) first is = let lower = lower_base types order at.0 b.0 first is in omega (arith, lower)
+
+-- what `base_of` says of the next type
+pub next_is : (types : List TypeRow) (at : ℕ) (next : Option TypeId) → IfSome next (λ b. IsBase types at b.0) → IfNone next ((b : ℕ) → IsBase types at b → ⊥) → IsNext types at next
+next_is types at None some none = none
+next_is types at (Some b) some none = some
+
+-- the walk goes on, whether the type is there or not
+pub marked_on : (types : List TypeRow) (t : ℕ) (at : TypeId) (next : Option TypeId) (old flags : List Bool) → IsNext types at.0 next → IsMarking types t (Some at) old flags → IsMarking types t next old (set flags at.0 true)
+marked_on types t at next old flags is so = elim (cases_lt at.0 (length flags)) [
+  | inl lt ↦ marked_here types t at next old flags lt is so
+  | inr le ↦ subst (λ (fs : List Bool). IsMarking types t next old fs) (sym (set_past flags at.0 true le)) (marked_past types t at next old flags le is so)
+]

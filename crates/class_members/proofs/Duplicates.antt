@@ -1,8 +1,8 @@
 -- The least duplicate, of which the least twin, the least clash with a first and the least that is one by itself tell.
-use Rattle.std.proofs.Common.{◌≡◌, ◌≢◌, ◌⊎◌, ℕ, zero, suc, ◌+◌, ◌<◌, ◌≤◌, Bool, true, false, Option, Some, None, List, [], length, map, refl, sym, ◌∙◌, ap, subst, inl, inr, arith}
+use Rattle.std.proofs.Common.{◌≡◌, ◌≢◌, ◌⊎◌, ℕ, zero, suc, ◌+◌, ◌<◌, ◌≤◌, Bool, true, false, Option, Some, None, List, [], length, map, get_or, refl, sym, ◌∙◌, ap, subst, inl, inr, arith}
 use Rattle.std.specs.List.{slice_get}
 use Rattle.std.proofs.lemmas.Bool.{cases_lt, cases_order}
-use Rattle.std.proofs.lemmas.Option.{slice_get_within}
+use Rattle.std.proofs.lemmas.Option.{slice_get_within, get_or_from_slice_get}
 use Rattle.dc_base.specs.declared.names.TypeId.{TypeId}
 use Rattle.dc_base.specs.declared.names.MemberId.{MemberId}
 use Rattle.dc_base.specs.declared.ty.Ty.{Ty}
@@ -103,7 +103,11 @@ twin_is types members explicit flags m are h =
       apart = h.apart;
       named = named_at types members explicit flags m are h.named;
       other_named = named_at types members explicit flags h.n are h.other_named;
-      a = h.a; stands = h.stands; b = h.b; other_stands = h.other_stands; one_owner = h.one_owner;
+      a = h.a;
+      stands = h.stands;
+      b = h.b;
+      other_stands = h.other_stands;
+      one_owner = h.one_owner;
     } in
     elim h.twins [
       | inl own ↦ inl (record { n = h.n; beside = beside; agree = own.1 })
@@ -124,7 +128,11 @@ odd_is types members explicit flags f are clash =
         apart = clash.1.apart;
         named = named_at types members explicit flags f are goes.other_named;
         other_named = named_at types members explicit flags clash.0 are goes.named;
-        a = goes.b; stands = goes.other_stands; b = goes.a; other_stands = goes.stands; one_owner = sym goes.one_owner;
+        a = goes.b;
+        stands = goes.other_stands;
+        b = goes.a;
+        other_stands = goes.stands;
+        one_owner = sym goes.one_owner;
       };
       reference = subst (λ (o : TypeId). IsReference types o.0) goes.one_owner goes.reference;
       one_name = sym goes.one_name;
@@ -166,7 +174,10 @@ agreeing_not types members explicit flags m are h none =
       n = h.n;
       apart = h.beside.apart;
       other_named = down_at types members explicit flags h.n h.beside.b are h.beside.other_stands h.beside.other_named;
-      a = h.beside.a; stands = h.beside.stands; b = h.beside.b; other_stands = h.beside.other_stands;
+      a = h.beside.a;
+      stands = h.beside.stands;
+      b = h.beside.b;
+      other_stands = h.beside.other_stands;
       one_owner = h.beside.one_owner;
       twins = twins;
     } in
@@ -204,7 +215,12 @@ third_not a b f (inr (inr o)) (inr (inr p)) name clash none = overloads_not a b 
 -- members that go by one name
 goes_back : (types : List TypeRow) (members : List MemberRow) (flags : List Bool) (m n : ℕ) → GoesWith types members flags m n → GoesWith types members flags n m
 goes_back types members flags m n g = record {
-  named = g.other_named; other_named = g.named; a = g.b; stands = g.other_stands; b = g.a; other_stands = g.stands;
+  named = g.other_named;
+  other_named = g.named;
+  a = g.b;
+  stands = g.other_stands;
+  b = g.a;
+  other_stands = g.stands;
   one_owner = sym g.one_owner;
   reference = subst (λ (o : TypeId). IsReference types o.0) g.one_owner g.reference;
   one_name = sym g.one_name;
@@ -214,7 +230,12 @@ goes_on : (types : List TypeRow) (members : List MemberRow) (flags : List Bool) 
 goes_on types members flags m n k g h =
     let same = one_item members n g.b h.a g.other_stands h.stands in
     record {
-      named = g.named; other_named = h.other_named; a = g.a; stands = g.stands; b = h.b; other_stands = h.other_stands;
+      named = g.named;
+      other_named = h.other_named;
+      a = g.a;
+      stands = g.stands;
+      b = h.b;
+      other_stands = h.other_stands;
       one_owner = g.one_owner ∙ ap (λ (r : MemberRow). r.owner) same ∙ h.one_owner;
       reference = g.reference;
       one_name = g.one_name ∙ ap known_as same ∙ h.one_name;
@@ -231,29 +252,39 @@ clash_at : (types : List TypeRow) (members : List MemberRow) (flags : List Bool)
 clash_at types members flags m f a b none first apart stands other_stands clash =
     let here = one_item members m first.holds.a a first.holds.stands stands in
     let there = one_item members f first.holds.b b first.holds.other_stands other_stands in
-    none (m, record {
-      first = first;
-      apart = apart;
-      clash = λ may. clash (subst (λ (r : MemberRow). MayShareName a r) there (subst (λ (r : MemberRow). MayShareName r first.holds.b) here may));
-    })
+    none (
+      m,
+      record {
+        first = first;
+        apart = apart;
+        clash = λ may. clash (subst (λ (r : MemberRow). MayShareName a r) there (subst (λ (r : MemberRow). MayShareName r first.holds.b) here may));
+      },
+    )
 
 clashing_at : (types : List TypeRow) (members : List MemberRow) (flags : List Bool) (m n f : ℕ) → m ≢ n → (g : GoesWith types members flags m n) → (MayShareName g.a g.b → ⊥) → IsLeast (GoesWith types members flags m) f → (HasTwin types members flags m → ⊥) → (IsFirstClash types members flags f → ⊥) → ⊥
 clashing_at types members flags m n f apart g clash first no_twin no_odd =
     let back = goes_back types members flags m n g in
     let other = first_of_other types members flags m n f back first in
     let no_one : AreOneOverload g.a g.b → ⊥ = λ one. no_twin (record {
-      named = g.named; n = n; apart = apart; other_named = g.other_named;
-      a = g.a; stands = g.stands; b = g.b; other_stands = g.other_stands; one_owner = g.one_owner;
+      named = g.named;
+      n = n;
+      apart = apart;
+      other_named = g.other_named;
+      a = g.a;
+      stands = g.stands;
+      b = g.b;
+      other_stands = g.other_stands;
+      one_owner = g.one_owner;
       twins = inr (g.reference, one);
     }) in
     elim (cases_order f m) [
       | inl e ↦ clash_at types members flags n f g.b g.a no_odd other (λ k. apart (sym e ∙ k)) g.other_stands (ap (λ (i : ℕ). slice_get members i) e ∙ g.stands) (λ may. clash (swap_share g.b g.a may))
       | inr w ↦
-          let not_m : f ≢ m = elim w [ | inl lt ↦ λ e. omega (arith, lt, e) | inr lt ↦ λ e. omega (arith, lt, e) ] in
+          let not_m : f ≢ m = elim w [ inl lt ↦ λ e. omega (arith, lt, e) | inr lt ↦ λ e. omega (arith, lt, e) ] in
           elim (cases_order f n) [
             | inl e ↦ clash_at types members flags m f g.a g.b no_odd first not_m g.stands (ap (λ (i : ℕ). slice_get members i) e ∙ g.other_stands) clash
             | inr v ↦
-                let not_n : f ≢ n = elim v [ | inl lt ↦ λ e. omega (arith, lt, e) | inr lt ↦ λ e. omega (arith, lt, e) ] in
+                let not_n : f ≢ n = elim v [ inl lt ↦ λ e. omega (arith, lt, e) | inr lt ↦ λ e. omega (arith, lt, e) ] in
                 clash_at types members flags m f g.a first.holds.b no_odd first not_m g.stands first.holds.other_stands (λ may.
                 clash_at types members flags n f g.b first.holds.b no_odd other not_n g.other_stands first.holds.other_stands (λ other_may.
                 third_not g.a g.b first.holds.b may other_may g.one_name clash no_one))
@@ -265,8 +296,13 @@ clashing_not types members explicit flags m are h none =
     let g : GoesWith types members flags m h.n = record {
       named = down_at types members explicit flags m h.beside.a are h.beside.stands h.beside.named;
       other_named = down_at types members explicit flags h.n h.beside.b are h.beside.other_stands h.beside.other_named;
-      a = h.beside.a; stands = h.beside.stands; b = h.beside.b; other_stands = h.beside.other_stands;
-      one_owner = h.beside.one_owner; reference = h.reference; one_name = h.one_name;
+      a = h.beside.a;
+      stands = h.beside.stands;
+      b = h.beside.b;
+      other_stands = h.beside.other_stands;
+      one_owner = h.beside.one_owner;
+      reference = h.reference;
+      one_name = h.one_name;
     } in
     let itself = goes_on types members flags m h.n m g (goes_back types members flags m h.n g) in
     not_none_least (GoesWith types members flags m) m itself (λ f first.
@@ -318,3 +354,10 @@ duplicate_within types members explicit m duplicate = elim duplicate [
     ]
   ]
 ]
+
+-- a row that is a duplicate by itself, with the flag as it was read
+pub lone_at : (types : List TypeRow) (members : List MemberRow) (flags : List Bool) (m : ℕ) (row : MemberRow) (d : Bool) → slice_get members m ≡ Some row → IsLone types members flags m → IsLoneRow types (get_or flags m d) row
+lone_at types members flags m row d stands lone =
+    let same = one_item members m lone.row row lone.stands stands in
+    let flag = get_or_from_slice_get flags m lone.is_nameless d lone.flag in
+    subst (λ (b : Bool). IsLoneRow types b row) (sym flag) (subst (λ (r : MemberRow). IsLoneRow types lone.is_nameless r) same lone.lone)

@@ -13,6 +13,7 @@ pub mod Noted
 -- odd::first_named, odd::least_of_firsts
 pub mod Odds
 -- sign::least_twin
+pub mod Equal
 pub mod SignTold
 -- unique::least_duplicate
 pub mod Duplicates

@@ -1,5 +1,5 @@
 -- Where each key stands first, among the first so many.
-use Rattle.std.proofs.Common.{◌≡◌, ◌≢◌, ◌⊎◌, ℕ, ◌+◌, ◌<◌, ◌≤◌, Bool, true, false, Option, Some, None, List, [], ◌∷◌, ◌++◌, length, not, refl, sym, ◌∙◌, ap, subst, inl, inr, arith}
+use Rattle.std.proofs.Common.{◌≡◌, ◌≢◌, ◌⊎◌, ℕ, ◌+◌, ◌<◌, ◌≤◌, Bool, true, false, Option, Some, None, List, [], ◌∷◌, ◌++◌, length, get_or, not, refl, sym, ◌∙◌, ap, subst, inl, inr, arith}
 use Rattle.std.specs.Prelude.{◌||◌, if◌then◌else◌}
 use Rattle.std.specs.Cmp.{IsEquivalence}
 use Rattle.std.specs.List.{list_any, slice_get}
@@ -10,7 +10,7 @@ use Rattle.std.proofs.lemmas.Map.Steps.{list_any_congr}
 use Rattle.std.proofs.lemmas.Option.{slice_get_within}
 use Rattle.indexmap.specs.IndexSet.{insert_key}
 use Rattle.dc_causes.specs.First.{IsLeast}
-use Rattle.class_keys.proofs.Items.{one_item, item_at, item_kept, last_item, pushed_item}
+use Rattle.class_keys.proofs.Items.{one_item, item_at, item_kept, last_item, pushed_item, read_item}
 use Rattle.class_keys.proofs.Found.{any_at}
 use Rattle.class_members.specs.Firsts.{IsAlsoAt, AreFirsts}
 
@@ -56,10 +56,10 @@ not_before eq laws keys seen places i key so none j q lt at =
 seen_new : {K : Type 0} (eq : K → K → Bool) → IsEquivalence eq → (keys seen : List K) (places : List ℕ) (i : ℕ) (key : K) → slice_get keys i ≡ Some key → AreSeen eq keys i seen places → list_any (eq key) seen ≡ false → AreSeen eq keys (i + 1) (seen ++ (key ∷ [])) (places ++ (i ∷ []))
 seen_new {K} eq laws keys seen places i key stands so none = record {
   long =
-    let here = length-append places (i ∷ []) in
-    let there = length-append seen (key ∷ []) in
-    let long = so.long in
-    omega (arith, here, there, long);
+      let here = length-append places (i ∷ []) in
+      let there = length-append seen (key ∷ []) in
+      let long = so.long in
+      omega (arith, here, there, long);
   noted = λ p f k at is. elim (pushed_item places i p f at) [
     | inl old ↦ elim (pushed_item seen key p k is) [
       | inl was ↦ so.noted p f k old was
@@ -116,17 +116,19 @@ first_here {K} eq laws keys i f key stored stands first equal = record {
       absurd cc;
 }
 
-pub noted_more : {K : Type 0} (eq : K → K → Bool) → IsEquivalence eq → (keys seen new_seen : List K) (places new_places firsts : List ℕ) (i place f : ℕ) (key stored : K) (is_new : Bool) → slice_get keys i ≡ Some key → is_new ≡ not (list_any (eq key) seen) → new_seen ≡ insert_key eq seen key → new_places ≡ (if is_new then places ++ (i ∷ []) else places) → slice_get new_seen place ≡ Some stored → eq key stored ≡ true → slice_get new_places place ≡ Some f → AreNoted eq keys i seen places firsts → AreNoted eq keys (i + 1) new_seen new_places (firsts ++ (f ∷ []))
-noted_more {K} eq laws keys seen new_seen places new_places firsts i place f key stored is_new stands new keys_are places_are stored_at equal at noted =
+pub noted_more : {K : Type 0} (eq : K → K → Bool) → IsEquivalence eq → (keys seen new_seen : List K) (places new_places firsts : List ℕ) (i place f : ℕ) (key stored : K) (is_new : Bool) → slice_get keys i ≡ Some key → is_new ≡ not (list_any (eq key) seen) → new_seen ≡ insert_key eq seen key → new_places ≡ (if is_new then places ++ (i ∷ []) else places) → slice_get new_seen place ≡ Some stored → eq key stored ≡ true → f ≡ get_or new_places place f → AreNoted eq keys i seen places firsts → AreNoted eq keys (i + 1) new_seen new_places (firsts ++ (f ∷ []))
+noted_more {K} eq laws keys seen new_seen places new_places firsts i place f key stored is_new stands new keys_are places_are stored_at equal is noted =
     let so = subst (λ (ks : List K). AreSeen eq keys (i + 1) ks new_places) (sym keys_are) (subst (λ (ps : List ℕ). AreSeen eq keys (i + 1) (insert_key eq seen key) ps) (sym places_are) (seen_more eq laws keys seen places i key is_new stands new noted.so)) in
+    let lt = slice_get_within new_seen place stored stored_at in
+    let at = read_item new_places place f (let long = so.long in omega (arith, lt, long)) is in
     record {
       so = so;
       count = let long = length-append firsts (f ∷ []) in let count = noted.count in omega (arith, long, count);
-      first = λ n g is. elim (pushed_item firsts f n g is) [
+      first = λ n g here. elim (pushed_item firsts f n g here) [
         | inl old ↦ noted.first n g old
         | inr one ↦
-            let here : n ≡ i = one.0 ∙ noted.count in
-            subst (λ (k : ℕ). IsLeast (IsAlsoAt eq keys k) g) (sym here) (subst (λ (k : ℕ). IsLeast (IsAlsoAt eq keys i) k) (sym one.1)
+            let last : n ≡ i = one.0 ∙ noted.count in
+            subst (λ (k : ℕ). IsLeast (IsAlsoAt eq keys k) g) (sym last) (subst (λ (k : ℕ). IsLeast (IsAlsoAt eq keys i) k) (sym one.1)
             (first_here eq laws keys i f key stored stands (so.noted place f stored at stored_at) equal))
       ];
     }

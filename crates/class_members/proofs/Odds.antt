@@ -98,14 +98,28 @@ one_least P m n a b = elim (cases_order m n) [
 
 odd_goes : (types : List TypeRow) (members : List MemberRow) (nameless : List Bool) (m f : ℕ) → IsOdd types members nameless m f → GoesWith types members nameless m m
 odd_goes types members nameless m f odd = record {
-  named = odd.named; other_named = odd.named; a = odd.a; stands = odd.stands; b = odd.a; other_stands = odd.stands;
-  one_owner = refl; reference = odd.reference; one_name = refl;
+  named = odd.named;
+  other_named = odd.named;
+  a = odd.a;
+  stands = odd.stands;
+  b = odd.a;
+  other_stands = odd.stands;
+  one_owner = refl;
+  reference = odd.reference;
+  one_name = refl;
 }
 
 pub goes_itself : (types : List TypeRow) (members : List MemberRow) (nameless : List Bool) (m n : ℕ) → GoesWith types members nameless m n → GoesWith types members nameless m m
 goes_itself types members nameless m n goes = record {
-  named = goes.named; other_named = goes.named; a = goes.a; stands = goes.stands; b = goes.a; other_stands = goes.stands;
-  one_owner = refl; reference = goes.reference; one_name = refl;
+  named = goes.named;
+  other_named = goes.named;
+  a = goes.a;
+  stands = goes.stands;
+  b = goes.a;
+  other_stands = goes.stands;
+  one_owner = refl;
+  reference = goes.reference;
+  one_name = refl;
 }
 
 clash_of_odd : (types : List TypeRow) (members : List MemberRow) (nameless : List Bool) (m f : ℕ) → (GoesWith types members nameless m m → IsLeast (GoesWith types members nameless m) f) → IsOdd types members nameless m f → IsClashOf types members nameless m f

@@ -67,22 +67,26 @@ all_marked types f0 f1 f2 f3 f4 f5 none long m1 m2 m3 m4 m5 =
     let a5 = marked_more types _ (IsSystem types (codes "String")) f4 f5 a4 m5 in
     record {
       long = a5.long;
-      sound = λ t up. let r = a5.sound t up in (r.0, r.1, elim r.2 [
-        | inr string ↦ inr (inr (inr (inr string)))
-        | inl four ↦ elim four [
-          | inr array ↦ inr (inr (inr (inl array)))
-          | inl three ↦ elim three [
-            | inr enums ↦ inr (inr (inl enums))
-            | inl two ↦ elim two [
-              | inr value ↦ inr (inl value)
-              | inl one ↦ elim one [
-                | inr object ↦ inl object
-                | inl never ↦ absurd never
+      sound = λ t up. let r = a5.sound t up in (
+        r.0,
+        r.1,
+        elim r.2 [
+          | inr string ↦ inr (inr (inr (inr string)))
+          | inl four ↦ elim four [
+            | inr array ↦ inr (inr (inr (inl array)))
+            | inl three ↦ elim three [
+              | inr enums ↦ inr (inr (inl enums))
+              | inl two ↦ elim two [
+                | inr value ↦ inr (inl value)
+                | inl one ↦ elim one [
+                  | inr object ↦ inl object
+                  | inl never ↦ absurd never
+                ]
               ]
             ]
           ]
-        ]
-      ]);
+        ],
+      );
       complete = λ t lt below. a5.complete below.0 t (elim below.2 [
         | inl object ↦ inl (inl (inl (inl (inr object))))
         | inr four ↦ elim four [

@@ -66,29 +66,47 @@ twin_by eq tells types members nameless m n (Own a) (Own b) apart x y e =
     let here = x.1.is.1 in
     let there = y.1.is.1 in
     record {
-      named = x.0; n = n; apart = apart; other_named = y.0;
-      a = x.1.row; stands = x.1.stands; b = y.1.row; other_stands = y.1.stands;
+      named = x.0;
+      n = n;
+      apart = apart;
+      other_named = y.0;
+      a = x.1.row;
+      stands = x.1.stands;
+      b = y.1.row;
+      other_stands = y.1.stands;
       one_owner = one_id x.1.row.owner y.1.row.owner (sym here.owner ∙ one.owner ∙ there.owner);
-      twins = inl (x.1.is.0, record {
-        name = sym here.name ∙ one.name ∙ there.name;
-        sort = sym here.sort ∙ one.sort ∙ there.sort;
-        params = sym here.params ∙ one.params ∙ there.params;
-        result = sym here.result ∙ one.result ∙ there.result;
-      });
+      twins = inl (
+        x.1.is.0,
+        record {
+          name = sym here.name ∙ one.name ∙ there.name;
+          sort = sym here.sort ∙ one.sort ∙ there.sort;
+          params = sym here.params ∙ one.params ∙ there.params;
+          result = sym here.result ∙ one.result ∙ there.result;
+        },
+      );
     }
 twin_by eq tells types members nameless m n (Reference a) (Reference b) apart x y e =
     let one = tells.reference a b e in
     let here = x.1.is.1 in
     let there = y.1.is.1 in
     record {
-      named = x.0; n = n; apart = apart; other_named = y.0;
-      a = x.1.row; stands = x.1.stands; b = y.1.row; other_stands = y.1.stands;
+      named = x.0;
+      n = n;
+      apart = apart;
+      other_named = y.0;
+      a = x.1.row;
+      stands = x.1.stands;
+      b = y.1.row;
+      other_stands = y.1.stands;
       one_owner = one_id x.1.row.owner y.1.row.owner (sym here.owner ∙ one.owner ∙ there.owner);
-      twins = inr (x.1.is.0, record {
-        name = sym here.name ∙ one.name ∙ there.name;
-        sort = sym here.sort ∙ one.sort ∙ there.sort;
-        told = sym here.types ∙ one.types ∙ there.types;
-      });
+      twins = inr (
+        x.1.is.0,
+        record {
+          name = sym here.name ∙ one.name ∙ there.name;
+          sort = sym here.sort ∙ one.sort ∙ there.sort;
+          told = sym here.types ∙ one.types ∙ there.types;
+        },
+      );
     }
 
 up_down : {G : Type 0} (flags : List Bool) (m : ℕ) → slice_get flags m ≡ Some true → slice_get flags m ≡ Some false → G

@@ -1,6 +1,6 @@
 // Types that have no instance fields.
 
-ghost use Rattle.std.specs.Prelude.{◌≡◌, ◌<◌, ◌^◌, length, false, IsTrue, IfOk};
+ghost use Rattle.std.specs.Prelude.{◌≡◌, ◌<◌, ◌^◌, length, set, true, false, IsTrue, IfOk};
 ghost use Rattle.class_chains.specs.Ends.{IsAboveFirst};
 ghost use Rattle.class_rows.specs.Types.{IsAbove};
 ghost use Rattle.class_rows.specs.Names.{NamesAreUnique};
@@ -17,6 +17,17 @@ use dc_base::{NoMemory, TypeId};
 use indexmap::IndexMap;
 use std::alloc::Global;
 
+// Marks a type, if it is there.
+fn with_mark(flags: Vec<bool>, t: TypeId) -> Vec<bool>
+    ensures { result.items ≡ set flags.items t.0 true }
+{
+    let mut flags = flags;
+    if (t.0 as usize) < flags.len() {
+        flags[t.0 as usize] = true;
+    }
+    flags
+}
+
 // Marks a type and those in its base chain.
 fn mark_chain(types: &[TypeRow], order: &[u32], t: TypeId, flags: Vec<bool>) -> Vec<bool>
     requires order { IsAboveFirst (IsAbove types.now) (length types.now) order.now }
@@ -25,9 +36,7 @@ fn mark_chain(types: &[TypeRow], order: &[u32], t: TypeId, flags: Vec<bool>) -> 
     let mut flags = flags;
     let mut next = Some(t);
     while let Some(at) = next {
-        if (at.0 as usize) < flags.len() {
-            flags[at.0 as usize] = true;
-        }
+        flags = with_mark(flags, at);
         next = base_of(types, at);
     }
     flags

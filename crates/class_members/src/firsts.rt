@@ -10,10 +10,7 @@ use std::hash::Hash;
 
 /// For each key the least index at which an equal key stands. It takes the time of one look-up in a table of hashes for
 /// each key.
-pub fn first_indices<K: Copy + Eq + Hash>(
-    alloc: Global,
-    keys: &[K],
-) -> Result<Vec<usize>, NoMemory>
+pub fn first_indices<K: Copy + Eq + Hash>(alloc: Global, keys: &[K]) -> Result<Vec<usize>, NoMemory>
     ensures { IfOk result (λ firsts. AreFirsts K.eq keys.now firsts.items) }
 {
     let mut seen = IndexSet::new(alloc);

@@ -5,8 +5,8 @@ ghost use Rattle.class_keys.specs.Least.{IsLeastOf};
 ghost use Rattle.class_members.specs.Twins.{told_types, HasTwin};
 ghost use Rattle.class_members.specs.Signs.{IsSignature, IsOverload, IsSign, AreSigns};
 
-use crate::reference::is_reference;
 use crate::pair::is_overloaded;
+use crate::reference::is_reference;
 use class_index::known_name;
 use class_keys::least_shared_key;
 use class_rows::{MemberRow, Param, Sort, TypeRow};

@@ -82,13 +82,7 @@ fn least_lone(
 {
     let nested = nested_names(alloc, types)?;
     let fieldless = fieldless_types(alloc, types, order)?;
-    Ok(first_lone(
-        types,
-        members,
-        &nested,
-        fieldless.as_slice(),
-        nameless,
-    ))
+    Ok(first_lone(types, members, &nested, fieldless.as_slice(), nameless))
 }
 
 fn least_duplicate(
