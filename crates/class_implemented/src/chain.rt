@@ -64,8 +64,9 @@ fn open_in(known: &Known, c: TypeId, i: TypeId) -> Option<usize>
     requires { IsKnown known.now }
     ensures { IsLeastOf (IsOpenIn known.now c.0 i.0) result }
 {
+    let own = known.index.of_owner(known.members, i);
     let mut least = None;
-    for m in known.index.of_owner(known.members, i) {
+    for m in own {
         least = lesser(least, open_one(known, c, *m));
     }
     least

@@ -1,6 +1,6 @@
 // The members of a type itself that implement a method.
 
-ghost use Rattle.std.specs.Prelude.{◌≡◌, Some, IsTrue, slice_get};
+ghost use Rattle.std.specs.Prelude.{◌≡◌, Some, IsTrue, false, slice_get};
 ghost use Rattle.class_rows.specs.declared.row.Access.TheVariants.{Public};
 ghost use Rattle.class_implemented.specs.Known.{IsKnown};
 ghost use Rattle.class_implemented.specs.Open.{HasImplementer, IsLike, HasLike};

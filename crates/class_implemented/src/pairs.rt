@@ -1,7 +1,8 @@
 // Explicit implementations, by the type that has one.
 
-ghost use Rattle.std.specs.Prelude.{◌≡◌, ℕ, IsTrue, IfOk, OnOk, take};
-ghost use Rattle.class_implemented.specs.Pairs.{ArePairs, IsPairOf, HasPair};
+ghost use Rattle.std.specs.Prelude.{◌++◌, ◌∷◌, [], List, IsTrue, IfOk};
+ghost use Rattle.dc_base.specs.declared.names.MemberId.{MemberId};
+ghost use Rattle.class_implemented.specs.Pairs.{ArePairs, HasPair};
 
 use class_rows::MemberRow;
 use dc_base::{MemberId, NoMemory, TypeId};
@@ -18,11 +19,25 @@ pub fn pairs_of(
 {
     let mut pairs = IndexSet::new(alloc);
     for pair in explicit {
-        if let Some(row) = members.get(pair.0.0 as usize) {
-            pairs.insert((row.owner.0, pair.1.0))?;
-        }
+        pairs = with_pair(members, pairs, *pair)?;
     }
     Ok(pairs)
+}
+
+fn with_pair(
+    members: &[MemberRow],
+    mut pairs: IndexSet<(u32, u32)>,
+    pair: (MemberId, MemberId),
+) -> Result<IndexSet<(u32, u32)>, NoMemory>
+    ensures { IfOk result (λ new. (seen : List (MemberId × MemberId)) → ArePairs members.now seen pairs.keys → ArePairs members.now (seen ++ (pair ∷ [])) new.keys) }
+{
+    match members.get(pair.0.0 as usize) {
+        Some(row) => {
+            pairs.insert((row.owner.0, pair.1.0))?;
+            Ok(pairs)
+        }
+        None => Ok(pairs),
+    }
 }
 
 /// Whether a type has an explicit implementation of a member.

@@ -93,13 +93,26 @@ fn with_type(known: &Known, mut clean: Vec<bool>, c: TypeId) -> Vec<bool>
     requires clean { AreClean known.now clean.items }
     ensures { AreClean known.now result.items }
 {
-    if has_clean_base(known, clean.as_slice(), c)
-        && missing(known, clean.as_slice(), c).is_none()
-        && (c.0 as usize) < clean.len()
-    {
+    let is_clean = is_settled(known, clean.as_slice(), c);
+    if is_clean && (c.0 as usize) < clean.len() {
         clean[c.0 as usize] = true;
     }
     clean
+}
+
+// Whether the base is marked, and nothing is missing.
+fn is_settled(known: &Known, clean: &[bool], c: TypeId) -> bool
+    requires known { IsKnown known.now }
+    requires clean { AreClean known.now clean.now }
+    ensures { IsTrue result → (m : ℕ) → IsMissing known.now c.0 m → ⊥ }
+{
+    if !has_clean_base(known, clean, c) {
+        return false;
+    }
+    match missing(known, clean, c) {
+        Some(_) => false,
+        None => true,
+    }
 }
 
 fn has_clean_base(known: &Known, clean: &[bool], c: TypeId) -> bool {
