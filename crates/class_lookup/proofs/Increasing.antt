@@ -1,5 +1,5 @@
 -- Numbers that rise, and which of them pass a test.
-use Rattle.std.proofs.Common.{◌≡◌, ◌⊎◌, ℕ, zero, suc, ◌+◌, ◌<◌, ◌≤◌, Bool, true, false, cond, List, [], ◌∷◌, length, get_or, inl, inr, sym, refl, ap, subst, ◌∙◌, arith}
+use Rattle.std.proofs.Common.{◌≡◌, ◌⊎◌, ℕ, zero, suc, ◌+◌, ◌<◌, Bool, true, false, cond, List, [], ◌∷◌, get_or, inl, inr, sym, refl, ap, subst, ◌∙◌, arith}
 use Rattle.std.proofs.lemmas.List.Kept.{AllPairs-from_increasing}
 use Rattle.std.proofs.lemmas.List.FromFn.{get_or-range_with_len, length-range_with_len}
 use Rattle.std.specs.List.{Contains, filter, range_with_len}
@@ -42,14 +42,14 @@ one_rising (x ∷ xs) (y ∷ ys) p q to_ back =
       ]
     ] in
     let rest : xs ≡ ys = one_rising xs ys (rises_tail x xs p) (rises_tail y ys q)
-        (λ m h. elim (contains_cases y ys m (to_ m (contains_tail x xs m h))) [
-          | inl e ↦ let a = rises_head x xs p m h in absurd (omega (arith, a, e, same))
-          | inr k ↦ k
-        ])
-        (λ m h. elim (contains_cases x xs m (back m (contains_tail y ys m h))) [
-          | inl e ↦ let a = rises_head y ys q m h in absurd (omega (arith, a, e, same))
-          | inr k ↦ k
-        ]) in
+    (λ m h. elim (contains_cases y ys m (to_ m (contains_tail x xs m h))) [
+      | inl e ↦ let a = rises_head x xs p m h in absurd (omega (arith, a, e, same))
+      | inr k ↦ k
+    ])
+    (λ m h. elim (contains_cases x xs m (back m (contains_tail y ys m h))) [
+      | inl e ↦ let a = rises_head y ys q m h in absurd (omega (arith, a, e, same))
+      | inr k ↦ k
+    ]) in
     ap (λ (n : ℕ). n ∷ xs) same ∙ ap (λ (zs : List ℕ). y ∷ zs) rest
 
 -- the numbers below a bound

@@ -1,6 +1,6 @@
 -- What is found in types in turn is what a look-up gives.
-use Rattle.std.proofs.Common.{◌≡◌, ◌≢◌, ◌⊎◌, ◌↔◌, ℕ, Bool, true, false, not, ◌&&◌, Option, Some, None, List, [], ◌∷◌, ◌++◌, inl, inr, sym, refl, ap, subst, ◌∙◌}
-use Rattle.std.proofs.lemmas.Bool.{and_from, and_parts, true_from_ne_false, false_from_ne_true}
+use Rattle.std.proofs.Common.{◌≡◌, ℕ, Bool, true, false, not, Option, Some, None, List, [], ◌∷◌, inl, inr, sym, refl, ap, ◌∙◌}
+use Rattle.std.proofs.lemmas.Bool.{and_from, and_parts, false_from_ne_true}
 use Rattle.std.proofs.lemmas.List.Kept.{IsStrictlyIncreasing-filter}
 use Rattle.std.specs.List.{slice_get, Contains}
 use Rattle.std.specs.Prelude.{unwrap_or}
@@ -11,8 +11,7 @@ use Rattle.class_rows.specs.declared.row.Kind.{Kind}
 use Rattle.class_rows.specs.declared.row.Kind.TheVariants.{Class, Interface}
 use Rattle.class_rows.specs.declared.row.Virt.{Virt}
 use Rattle.class_rows.specs.declared.row.Virt.TheVariants.{Plain, Virtual, Abstract, Override, SealedOverride}
-use Rattle.class_rows.specs.Types.{HasType}
-use Rattle.class_rows.specs.Members.{HasMember, IsNameless, known_as}
+use Rattle.class_rows.specs.Members.{IsNameless}
 use Rattle.class_rows.specs.Bases.{BasesAreThere}
 use Rattle.class_rows.specs.Lookups.{TakesOver, IsFound, AreFound, none, more}
 use Rattle.class_alike.specs.Named.{AreMarks}
@@ -25,7 +24,7 @@ use Rattle.class_lookup.proofs.Those.{known_to, known_back, known_rises}
 pub bases_fit : (types : List TypeRow) (members : List MemberRow) → BasesAreThere types members → BasesAreClasses types
 bases_fit types members fit t b base =
     let is = (fit t).base b base in
-    record { row = is.row; stands = is.stands; is = λ e. apart is.row.kind is.is.0 e; }
+    record { row = is.row; stands = is.stands; is = λ e. apart is.row.kind is.is.0 e }
   where
     apart : (k : Kind) → k ≡ Class → k ≡ Interface → ⊥
     apart k e f = let g : Class ≡ Interface = sym e ∙ f in cc
@@ -66,17 +65,19 @@ module _ (types : List TypeRow) (members : List MemberRow) (explicit : List (Mem
         let both = filter_to (may_stand members nameless) (known_in members name t) m h in
         let known = known_to members name t m both.0 in
         let stands = and_parts (is_no_override (slice_get members m)) (not (unwrap_or (slice_get nameless m) false)) both.1 in
-        let plain : not (is_override known.row.virt) ≡ true = sym (ap is_no_override known.stands) ∙ stands.0 in
-        (record {
-          row = known.row;
-          stands = known.stands;
-          is = (known.is.0, known.is.1, λ over. not_cases (is_override known.row.virt) plain (override_takes known.row.virt over));
-        }, unmarked m stands.1)
+        let plain : not (is_override known.row.virt) ≡ true = sym (ap is_no_override known.stands) ∙ stands.0 in (
+          record {
+            row = known.row;
+            stands = known.stands;
+            is = (known.is.0, known.is.1, λ over. not_cases (is_override known.row.virt) plain (override_takes known.row.virt over));
+          },
+          unmarked m stands.1,
+        )
 
     found_back : (t m : ℕ) → IsFound types members explicit name t m → Contains (found_in members nameless name t) m
     found_back t m found =
         let row = found.0 in
-        let known = known_back members name t m (record { row = row.row; stands = row.stands; is = (row.is.0, row.is.1); }) in
+        let known = known_back members name t m (record { row = row.row; stands = row.stands; is = (row.is.0, row.is.1) }) in
         let plain : is_no_override (slice_get members m) ≡ true = ap is_no_override row.stands ∙ ap not (not_taking row.row.virt row.is.2) in
         filter_back (may_stand members nameless) (known_in members name t) m known
         (and_from (is_no_override (slice_get members m)) (not (unwrap_or (slice_get nameless m) false)) plain (not_marked m found.1))

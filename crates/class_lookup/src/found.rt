@@ -49,11 +49,16 @@ pub fn lookup<'a>(
 }
 
 // Goes on to the first type that has members of the name.
-fn found_in<'a>(members: &'a [MemberRow], named: &'a Named, search: Search<'a>, name: &[u8]) -> Found<'a>
+fn found_in<'a>(
+    members: &'a [MemberRow],
+    named: &'a Named,
+    search: Search<'a>,
+    name: &[u8],
+) -> Found<'a>
     requires can { CanSearch search }
     requires index { IsIndex members.now named.now.index.order }
     ensures can { CanFind result }
-    ensures left { found_left result ≡ all_found members.now named.now.nameless name.now (types_left search) }
+    ensures left { found_left result ≡ all_found members.now named.now.nameless name.now (types_left search.entry) }
 {
     let mut search = search;
     while let Some((t, behind)) = search.split_first() {

@@ -18,11 +18,16 @@ pub struct Rest<'a> {
 }
 
 /// The first member that is found, and what is left behind it.
-pub fn first_found<'a>(members: &'a [MemberRow], named: &'a Named, name: &[u8], rest: Rest<'a>) -> Option<(u32, Rest<'a>)>
+pub fn first_found<'a>(
+    members: &'a [MemberRow],
+    named: &'a Named,
+    name: &[u8],
+    rest: Rest<'a>,
+) -> Option<(u32, Rest<'a>)>
     requires can { CanSearch rest.search }
     requires index { IsIndex members.now named.now.index.order }
     ensures can { MatchOption result ⊤ (λ p. CanSearch p.1.search) }
-    ensures first { MatchOption result (rest_left members.now named.now name.now rest ≡ []) (λ p. rest_left members.now named.now name.now rest ≡ p.0 ∷ rest_left members.now named.now name.now p.1) }
+    ensures first { MatchOption result (rest_left members.now named.now name.now rest.entry ≡ []) (λ p. rest_left members.now named.now name.now rest.entry ≡ p.0 ∷ rest_left members.now named.now name.now p.1) }
 {
     let mut those = rest.those;
     let mut search = rest.search;
@@ -43,7 +48,11 @@ pub fn first_found<'a>(members: &'a [MemberRow], named: &'a Named, name: &[u8], 
 }
 
 // The first of some members that isn't left out, and those behind it.
-fn first_that_stands<'a>(members: &[MemberRow], named: &Named, those: &'a [u32]) -> Option<(u32, &'a [u32])>
+fn first_that_stands<'a>(
+    members: &[MemberRow],
+    named: &Named,
+    those: &'a [u32],
+) -> Option<(u32, &'a [u32])>
     ensures { MatchOption result (filter (may_stand members.now named.now.nameless) those.now ≡ []) (λ p. filter (may_stand members.now named.now.nameless) those.now ≡ p.0 ∷ filter (may_stand members.now named.now.nameless) p.1.now) }
 {
     let mut left = those;

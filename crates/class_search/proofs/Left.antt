@@ -1,5 +1,5 @@
 -- Steps along what is left.
-use Rattle.std.proofs.Common.{◌≡◌, ◌⊎◌, ℕ, zero, suc, ◌+◌, ◌<◌, ◌≤◌, Bool, true, false, cond, Option, Some, None, List, [], ◌∷◌, ◌++◌, length, nat_lt, nat_eq, inl, inr, sym, refl, ap, subst, ◌∙◌, arith, append-nil}
+use Rattle.std.proofs.Common.{◌≡◌, ℕ, zero, suc, ◌<◌, ◌≤◌, Bool, true, false, cond, Option, Some, None, List, [], ◌∷◌, ◌++◌, length, nat_lt, nat_eq, sym, refl, ap, subst, ◌∙◌, arith, append-nil}
 use Rattle.std.specs.List.{slice_get}
 use Rattle.std.specs.Prelude.{IfSome, IfNone}
 use Rattle.dc_base.specs.declared.names.TypeId.{TypeId}
@@ -94,7 +94,7 @@ module _ (types : List TypeRow) (order : List ℕ) (first : IsAboveFirst (IsAbov
       let low = height_short (length types) order t.0 in
       ap (λ (us : List ℕ). t.0 ∷ us)
       (chain_more (suc (length order)) (suc (suc (length order))) (base_at (slice_get types t.0))
-        (base_enough (suc (length order)) t.0 low) (base_enough (suc (suc (length order))) t.0 (omega (arith, low))))
+      (base_enough (suc (length order)) t.0 low) (base_enough (suc (suc (length order))) t.0 (omega (arith, low))))
 
   chain_upto : (n t : ℕ) → high t < n → IsChain types t (chain_left types n (Some (record { 0 = t })))
   chain_upto zero t lt = absurd (omega (arith, lt))
@@ -142,7 +142,7 @@ module _ (types : List TypeRow) (order : List ℕ) (first : IsAboveFirst (IsAbov
         let low = height_short (length types) order t in
         ap (λ (us : List ℕ). own_at (slice_get table t) ++ us)
         (told_more (suc (length order)) (suc (suc (length order))) (onward_at (slice_get table t))
-          (onward_enough (suc (length order)) t low) (onward_enough (suc (suc (length order))) t (omega (arith, low))))
+        (onward_enough (suc (length order)) t low) (onward_enough (suc (suc (length order))) t (omega (arith, low))))
 
     told_upto : (n t : ℕ) (list : List ℕ) → IsTold table t list → high t < n → told_left table n (Some t) ≡ list
     told_upto zero t list told lt = absurd (omega (arith, lt))
@@ -179,7 +179,7 @@ module _ (types : List TypeRow) (order : List ℕ) (first : IsAboveFirst (IsAbov
         let low = height_short (length types) order t in
         ap suc
         (links_more (suc (length order)) (suc (suc (length order))) (onward_at (slice_get table t))
-          (onward_enough (suc (length order)) t low) (onward_enough (suc (suc (length order))) t (omega (arith, low))))
+        (onward_enough (suc (length order)) t low) (onward_enough (suc (suc (length order))) t (omega (arith, low))))
 
     pub followed_lower : (t : ℕ) (s : Spread) → slice_get table t ≡ Some (Some s) → links_left table (suc (suc (length order))) s.onward < links_left table (suc (suc (length order))) (Some t)
     followed_lower t s stands =
@@ -199,7 +199,7 @@ module _ (types : List TypeRow) (order : List ℕ) (first : IsAboveFirst (IsAbov
     go_on before own after onward t s shown e none_ on same stands is =
         let at : slice_get table t ≡ Some (Some s) = ap (λ (xs : List (Option Spread)). slice_get xs t) (sym same) ∙ stands in
         let start : before ≡ told_left table (suc (suc (length order))) (Some t) =
-            e ∙ ap (λ (xs : List ℕ). xs ++ told_left table (suc (suc (length order))) onward) none_ ∙ ap (λ (o : Option ℕ). told_left table (suc (suc (length order))) o) on in
+        e ∙ ap (λ (xs : List ℕ). xs ++ told_left table (suc (suc (length order))) onward) none_ ∙ ap (λ (o : Option ℕ). told_left table (suc (suc (length order))) o) on in
         followed t s before at start ∙ ap (λ (xs : List ℕ). xs ++ told_left table (suc (suc (length order))) s.onward) (sym is)
 
     pub go_lower : (onward : Option ℕ) (t : ℕ) (s : Spread) (shown : List (Option Spread)) → onward ≡ Some t → shown ≡ table → slice_get shown t ≡ Some (Some s) → links_left table (suc (suc (length order))) s.onward < links_left table (suc (suc (length order))) onward
@@ -210,5 +210,5 @@ module _ (types : List TypeRow) (order : List ℕ) (first : IsAboveFirst (IsAbov
     pub go_no_further : (before own : List ℕ) (onward : Option ℕ) (t : ℕ) (shown : List (Option Spread)) → before ≡ own ++ told_left table (suc (suc (length order))) onward → own ≡ [] → onward ≡ Some t → shown ≡ table → ((s : Spread) → slice_get shown t ≡ Some (Some s) → ⊥) → before ≡ []
     go_no_further before own onward t shown e none_ on same off =
         let start : before ≡ told_left table (suc (suc (length order))) (Some t) =
-            e ∙ ap (λ (xs : List ℕ). xs ++ told_left table (suc (suc (length order))) onward) none_ ∙ ap (λ (o : Option ℕ). told_left table (suc (suc (length order))) o) on in
+        e ∙ ap (λ (xs : List ℕ). xs ++ told_left table (suc (suc (length order))) onward) none_ ∙ ap (λ (o : Option ℕ). told_left table (suc (suc (length order))) o) on in
         not_followed t before (λ s at. off s (ap (λ (xs : List (Option Spread)). slice_get xs t) same ∙ at)) start

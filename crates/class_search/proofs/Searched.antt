@@ -1,5 +1,5 @@
 -- A base chain, interfaces that are spread out and System.Object are what is searched.
-use Rattle.std.proofs.Common.{◌≡◌, ◌≢◌, ◌⊎◌, ℕ, zero, suc, ◌+◌, ◌<◌, ◌≤◌, Bool, true, false, cond, not, ◌||◌, Option, Some, None, List, [], ◌∷◌, ◌++◌, length, nat_eq, codes, inl, inr, sym, refl, ap, subst, ◌∙◌, arith, append-nil, append_assoc}
+use Rattle.std.proofs.Common.{◌≡◌, ◌⊎◌, ℕ, ◌≤◌, Bool, true, false, cond, not, ◌||◌, Option, Some, None, List, [], ◌∷◌, ◌++◌, length, nat_eq, inl, inr, sym, refl, ap, subst, ◌∙◌, arith, append-nil, append_assoc}
 use Rattle.std.proofs.lemmas.Bool.{eqb-true, eq-eqb, or_left, or_right}
 use Rattle.std.proofs.lemmas.List.Folds.{list_any-append}
 use Rattle.std.proofs.lemmas.Option.{slice_get_within}
@@ -8,15 +8,13 @@ use Rattle.std.specs.Bool.{◌==◌}
 use Rattle.std.specs.Prelude.{MatchOption}
 use Rattle.indexmap.specs.IndexSet.{insert_key}
 use Rattle.dc_base.specs.declared.names.TypeId.{TypeId}
-use Rattle.class_chains.specs.Ends.{Reaches, here, further, IsAboveFirst}
+use Rattle.class_chains.specs.Ends.{here, further, IsAboveFirst}
 use Rattle.class_parts.proofs.Climb.{height, lower_base, one_base, reached}
 use Rattle.class_rows.specs.declared.row.TypeRow.{TypeRow}
 use Rattle.class_rows.specs.declared.row.Kind.TheVariants.{Interface}
 use Rattle.class_rows.specs.Types.{HasType, IsBase, IsNamed, IsAbove, InBaseChain, NamesInterface, directly, in_turn}
-use Rattle.class_rows.specs.Core.{IsSystem}
-use Rattle.class_rows.specs.Lookups.{IsChain, ended, longer, firsts, AreNamed, AreSpread, AreSearched, of_interface, of_other}
-use Rattle.class_spread.specs.Spreads.{IsSpreadOut, AreSpreads}
-use Rattle.class_spread.specs.Filled.{added}
+use Rattle.class_rows.specs.Lookups.{IsChain, ended, longer, firsts, AreNamed, AreSearched, of_interface, of_other}
+use Rattle.class_spread.specs.Spreads.{IsSpreadOut}
 use Rattle.class_spread.proofs.Firsts.{has, added-append, added_all, has_firsts}
 use Rattle.class_spread.proofs.Out.{out_to, out_back, names_lower}
 use Rattle.class_assign.specs.declared.supers.Supers.{Supers}
@@ -142,12 +140,12 @@ module _ (types : List TypeRow) (supers : Supers) (are : AreSupers types supers)
   whole t named list are_named out last is_last spread e =
       let o = supers.object.0 in
       let off : (x : ℕ) → InBaseChain types t x → has x spread ≡ true → ⊥ =
-          λ x up h. apart types supers.orders.bases are.orders.bases bases interfaces t x up
-          (out_to types t named list are_named out x (subst (λ (xs : List ℕ). has x xs ≡ true) (sym e) (has_firsts x spread ∙ h))) in
+      λ x up h. apart types supers.orders.bases are.orders.bases bases interfaces t x up
+      (out_to types t named list are_named out x (subst (λ (xs : List ℕ). has x xs ≡ true) (sym e) (has_firsts x spread ∙ h))) in
       let inner : firsts (chain t ++ spread) ≡ chain t ++ list =
-          chain_firsts types supers.orders.bases are.orders.bases t (chain t) (chain_is t) spread off ∙ ap (λ (xs : List ℕ). chain t ++ xs) (sym e) in
+      chain_firsts types supers.orders.bases are.orders.bases t (chain t) (chain_is t) spread off ∙ ap (λ (xs : List ℕ). chain t ++ xs) (sym e) in
       let ends_ : firsts (chain t ++ (spread ++ (o ∷ []))) ≡ insert_key nat_eq (chain t ++ list) o =
-          ap firsts (sym (append_assoc (chain t) spread (o ∷ []))) ∙ firsts_last (chain t ++ spread) o ∙ ap (λ (ks : List ℕ). insert_key nat_eq ks o) inner in
+      ap firsts (sym (append_assoc (chain t) spread (o ∷ []))) ∙ firsts_last (chain t ++ spread) o ∙ ap (λ (ks : List ℕ). insert_key nat_eq ks o) inner in
       ends_ ∙ by_last last is_last
     where
       by_last : (last : Option TypeId) → IsLast types t supers.object.0 last → insert_key nat_eq (chain t ++ list) supers.object.0 ≡ chain t ++ (list ++ last_left last)

@@ -4,7 +4,6 @@ use Rattle.dc_base.specs.declared.names.TypeId.{TypeId}
 use Rattle.class_rows.specs.declared.row.TypeRow.{TypeRow}
 use Rattle.class_chains.specs.Ends.{IsAboveFirst}
 use Rattle.class_rows.specs.Types.{IsAbove}
-use Rattle.class_parts.specs.Orders.{AreOrders}
 use Rattle.class_spread.specs.declared.spread.Spread.{Spread}
 use Rattle.class_spread.specs.Spreads.{LinksGoUp}
 use Rattle.class_assign.specs.declared.supers.Supers.{Supers}

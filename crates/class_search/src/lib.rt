@@ -10,5 +10,4 @@
 mod interfaces;
 mod search;
 
-pub use interfaces::Interfaces;
 pub use search::{Search, search_in};

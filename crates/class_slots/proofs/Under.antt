@@ -1,19 +1,19 @@
 -- A table of slots that is under way, the types from the bases down.
-use Rattle.std.proofs.Common.{◌≡◌, ◌≢◌, ◌⊎◌, ℕ, zero, suc, ◌+◌, ◌<◌, ◌≤◌, Bool, true, false, Option, Some, None, List, [], ◌∷◌, length, set, eqb, get_or, inl, inr, sym, refl, ap, subst, ◌∙◌, arith}
+use Rattle.std.proofs.Common.{◌≡◌, ◌⊎◌, ℕ, zero, suc, ◌+◌, ◌<◌, ◌≤◌, true, false, Some, List, [], ◌∷◌, length, set, eqb, get_or, inl, inr, sym, refl, ap, subst, ◌∙◌, arith}
 use Rattle.std.proofs.Math.ListN.{length-set}
 use Rattle.std.proofs.lemmas.Bool.{cases_lt, eqb-true, eqb-false}
 use Rattle.std.proofs.lemmas.Option.{slice_get_within, get_or_from_slice_get}
-use Rattle.std.specs.List.{slice_get, Contains}
+use Rattle.std.specs.List.{slice_get}
 use Rattle.dc_base.specs.declared.names.MemberId.{MemberId}
 use Rattle.dc_base.specs.declared.names.TypeId.{TypeId}
 use Rattle.class_chains.proofs.Marks.{set_at}
-use Rattle.class_chains.specs.Ends.{Reaches, here, further, IsAboveFirst}
+use Rattle.class_chains.specs.Ends.{here, further, IsAboveFirst}
 use Rattle.class_parts.proofs.Climb.{height, lower_base}
 use Rattle.class_rows.specs.declared.row.TypeRow.{TypeRow}
 use Rattle.class_rows.specs.declared.row.MemberRow.{MemberRow}
 use Rattle.class_rows.specs.Types.{IsBase, IsAbove, InBaseChain}
-use Rattle.class_rows.specs.Members.{HasMember, IsOf}
-use Rattle.class_rows.specs.Lookups.{IsOverridden, IsSlot, itself, taken}
+use Rattle.class_rows.specs.Members.{IsOf}
+use Rattle.class_rows.specs.Lookups.{IsOverridden, IsSlot, taken}
 use Rattle.class_slots.proofs.Like.{nearest_owner}
 use Rattle.class_slots.specs.Slots.{AreSlots, IsTold, AreSlotsOf, AreSlotsAbove, AreSlotsWith, IsSlotWritten, OwnersAreThere}
 
@@ -51,7 +51,7 @@ module _ (types : List TypeRow) (members : List MemberRow) (explicit : List (Mem
   -- the slot of what a member overrides stands already
   pub above_told : (slots : List ℕ) (t m n : ℕ) → AreSlotsAbove types members explicit slots t → IsOf members t m → IsOverridden types members explicit m n → IsTold types members explicit slots n
   above_told slots t m n above_ owned over =
-      let owner : over.row.owner.0 ≡ t = one_owner members over.row.owner.0 t m (record { row = over.row; stands = over.stands; is = refl; }) owned in
+      let owner : over.row.owner.0 ≡ t = one_owner members over.row.owner.0 t m (record { row = over.row; stands = over.stands; is = refl }) owned in
       let base = subst (λ (o : ℕ). IsBase types o over.b) owner over.base in
       let at = nearest_owner types members explicit over.row over.b n over.nearest in
       above_.above over.b at.0 base at.1 n at.2
@@ -74,7 +74,7 @@ module _ (types : List TypeRow) (members : List MemberRow) (explicit : List (Mem
   above_kept order first before after t m above_ owned w = record {
     long = w.long ∙ above_.long;
     above = λ b u base chain n of_.
-      told_kept before after m n w (λ e. chain_apart types order first t b u base chain (one_owner members t u n (subst (λ (k : ℕ). IsOf members t k) e owned) of_)) (above_.above b u base chain n of_);
+        told_kept before after m n w (λ e. chain_apart types order first t b u base chain (one_owner members t u n (subst (λ (k : ℕ). IsOf members t k) e owned) of_)) (above_.above b u base chain n of_);
   }
 
   -- the members of the type, one by one
@@ -84,7 +84,7 @@ module _ (types : List TypeRow) (members : List MemberRow) (explicit : List (Mem
     pub kept : (m : ℕ) → (IsOf members t m → ⊥) → slice_get slots m ≡ slice_get before m
 
   pub begins : (before : List ℕ) (t : ℕ) (own : List ℕ) → AreSlotsAbove types members explicit before t → IsUnderWay before before t own 0
-  begins before t own above_ = record { above_ = above_; done = λ j m lt at. absurd (omega arith); kept = λ m off. refl; }
+  begins before t own above_ = record { above_ = above_; done = λ j m lt at. absurd (omega arith); kept = λ m off. refl }
 
   pub goes_on : (order : List ℕ) → IsAboveFirst (IsAbove types) (length types) order → (before slots after : List ℕ) (t : ℕ) (own : List ℕ) (k m : ℕ) → slice_get own k ≡ Some m → IsOf members t m → IsUnderWay before slots t own k → IsSlotWritten types members explicit slots after m → IsUnderWay before after t own (k + 1)
   goes_on order first before slots after t own k m at owned way w = record {
@@ -92,12 +92,12 @@ module _ (types : List TypeRow) (members : List MemberRow) (explicit : List (Mem
     done = λ j n lt there. elim (eqb m n) as (λ b. eqb m n ≡ b → IsTold types members explicit after n) [
       | true ↦ λ e. subst (λ (i : ℕ). IsTold types members explicit after i) (eqb-true m n e) w.told
       | false ↦ λ e. elim (cases_lt j k) [
-          | inl less ↦ told_kept slots after m n w (eqb-false m n e) (way.done j n less there)
-          | inr ge ↦
-              let same : j ≡ k = omega arith in
-              let o : Some m ≡ Some n = sym at ∙ ap (λ (i : ℕ). slice_get own i) (sym same) ∙ there in
-              absurd (eqb-false m n e (some_number m n o))
-        ]
+        | inl less ↦ told_kept slots after m n w (eqb-false m n e) (way.done j n less there)
+        | inr ge ↦
+            let same : j ≡ k = omega arith in
+            let o : Some m ≡ Some n = sym at ∙ ap (λ (i : ℕ). slice_get own i) (sym same) ∙ there in
+            absurd (eqb-false m n e (some_number m n o))
+      ]
     ] refl;
     kept = λ n off. w.kept n (λ e. off (subst (λ (i : ℕ). IsOf members t i) e owned)) ∙ way.kept n off;
   }
@@ -149,14 +149,14 @@ told_more types members explicit order before after k t at told with_ j u lt the
     elim (eqb t u) as (λ b. eqb t u ≡ b → IsTold types members explicit after m) [
       | true ↦ λ e. with_.own m (subst (λ (n : ℕ). IsOf members n m) (sym (eqb-true t u e)) of_)
       | false ↦ λ e. elim (cases_lt j k) [
-          | inl less ↦
-              let was = told j u less there m of_ in
-              (was.0, with_.kept m (λ mine. eqb-false t u e (one_owner members t u m mine of_)) ∙ was.1, was.2)
-          | inr ge ↦
-              let same : j ≡ k = omega arith in
-              let o : Some t ≡ Some u = sym at ∙ ap (λ (i : ℕ). slice_get order i) (sym same) ∙ there in
-              absurd (eqb-false t u e (some_number t u o))
-        ]
+        | inl less ↦
+            let was = told j u less there m of_ in
+            (was.0, with_.kept m (λ mine. eqb-false t u e (one_owner members t u m mine of_)) ∙ was.1, was.2)
+        | inr ge ↦
+            let same : j ≡ k = omega arith in
+            let o : Some t ≡ Some u = sym at ∙ ap (λ (i : ℕ). slice_get order i) (sym same) ∙ there in
+            absurd (eqb-false t u e (some_number t u o))
+      ]
     ] refl
   where
     some_number : (a b : ℕ) → Some a ≡ Some b → a ≡ b
@@ -171,11 +171,11 @@ pub all_told : (types : List TypeRow) (members : List MemberRow) (explicit : Lis
 all_told types members explicit order slots first owners long k le told = record {
   long = long;
   right = λ m s at.
-    let row = at_row members m (omega (arith, slice_get_within slots m s at, long)) in
-    let of_ : IsOf members row.0.owner.0 m = record { row = row.0; stands = row.1; is = refl; } in
-    let place = first.all row.0.owner.0 (owners row.0.owner.0 m of_) in
-    let mine = told place.0 row.0.owner.0 (omega (arith, slice_get_within order place.0 row.0.owner.0 place.1, le)) place.1 m of_ in
-    subst (λ (n : ℕ). IsSlot types members explicit m n) (some_number mine.0 s (sym mine.1 ∙ at)) mine.2;
+      let row = at_row members m (omega (arith, slice_get_within slots m s at, long)) in
+      let of_ : IsOf members row.0.owner.0 m = record { row = row.0; stands = row.1; is = refl } in
+      let place = first.all row.0.owner.0 (owners row.0.owner.0 m of_) in
+      let mine = told place.0 row.0.owner.0 (omega (arith, slice_get_within order place.0 row.0.owner.0 place.1, le)) place.1 m of_ in
+      subst (λ (n : ℕ). IsSlot types members explicit m n) (some_number mine.0 s (sym mine.1 ∙ at)) mine.2;
 }
   where
     some_number : (a b : ℕ) → Some a ≡ Some b → a ≡ b

@@ -1,6 +1,5 @@
 -- A table of slots.
 use Rattle.std.specs.Prelude.{◌≡◌, ◌≢◌, ℕ, ◌<◌, List, Some, false, length, slice_get}
-use Rattle.std.specs.List.{slice_set}
 use Rattle.dc_base.specs.declared.names.MemberId.{MemberId}
 use Rattle.class_rows.specs.declared.row.TypeRow.{TypeRow}
 use Rattle.class_rows.specs.declared.row.MemberRow.{MemberRow}

@@ -109,9 +109,7 @@ fn is_virtual_like(
     ensures no { IsLike types.now members.now explicit.now row.now n → IsTrue result }
 {
     match members.get(n as usize) {
-        Some(other) => {
-            is_virtual(other) && are_alike(types, other, row) && has_name(named, n)
-        }
+        Some(other) => { is_virtual(other) && are_alike(types, other, row) && has_name(named, n) }
         None => false,
     }
 }

@@ -39,7 +39,13 @@ pub fn slots_of(
 }
 
 /// The member that introduced a member's slot; the member itself where it takes none over.
-pub fn slot(types: &[TypeRow], members: &[MemberRow], explicit: &[(MemberId, MemberId)], slots: &Seq<u32>, m: MemberId) -> MemberId
+pub fn slot(
+    types: &[TypeRow],
+    members: &[MemberRow],
+    explicit: &[(MemberId, MemberId)],
+    slots: &Seq<u32>,
+    m: MemberId,
+) -> MemberId
     requires slots { AreSlots types.now members.now explicit.now slots.now }
     requires within { m.0 < length members.now }
     ensures { IsSlot types.now members.now explicit.now m.0 result.0 }
@@ -88,7 +94,16 @@ fn with_slot(
     ensures { IsSlotWritten types.now members.now explicit.now slots.items result.items m }
 {
     let mut slots = slots;
-    let slot = slot_of(types, members, explicit, orders, named, slots.as_slice(), t, m);
+    let slot = slot_of(
+        types,
+        members,
+        explicit,
+        orders,
+        named,
+        slots.as_slice(),
+        t,
+        m,
+    );
     slots[m as usize] = slot;
     slots
 }

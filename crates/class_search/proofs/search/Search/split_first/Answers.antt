@@ -1,4 +1,4 @@
-use Rattle.std.proofs.Common.{◌≡◌, ◌∷◌, ◌++◌, List, ℕ, Option, Some, ap, sym, ◌∙◌}
+use Rattle.std.proofs.Common.{◌∷◌, ◌++◌, List, ℕ, Option, ap, ◌∙◌}
 use Rattle.dc_base.specs.declared.names.TypeId.{TypeId}
 use Rattle.class_search.specs.Left.{chain_left, interfaces_left, last_left, steps}
 use Rattle.class_search.proofs.Left.{chain_step, base_from_call}
