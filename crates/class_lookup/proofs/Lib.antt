@@ -4,3 +4,5 @@ pub mod Increasing
 pub mod Those
 -- found::lookup
 pub mod Looked
+-- law::one_lookup
+pub mod One

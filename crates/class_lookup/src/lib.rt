@@ -8,6 +8,8 @@
 #![tactic(auto)]
 
 mod found;
+mod law;
 mod rest;
 
 pub use found::{Found, lookup};
+pub use law::one_lookup;
