@@ -32,6 +32,10 @@ one_owner members t u m p q =
     let e = one_row members m p.row q.row p.stands q.stands in
     ap (λ (o : TypeId). o.0) (sym p.is ∙ ap (λ (r : MemberRow). r.owner) e ∙ q.is)
 
+owner_there : (types : List TypeRow) (members : List MemberRow) → OwnersAreThere types members → (t m : ℕ) → IsOf members t m → t < length types
+owner_there types members owners t m of_ =
+    subst (λ (n : ℕ). n < length types) (ap (λ (o : TypeId). o.0) of_.is) (owners m of_.row of_.stands)
+
 chain_lower : (types : List TypeRow) (order : List ℕ) → IsAboveFirst (IsAbove types) (length types) order → (b u : ℕ) → InBaseChain types b u → height (length types) order u ≤ height (length types) order b
 chain_lower types order first b u (here t) = omega arith
 chain_lower types order first b u (further t c a base rest) =
@@ -128,7 +132,7 @@ base_before types order first k t b at base = elim (cases_lt b (length types)) [
 
 chain_told : (types : List TypeRow) (members : List MemberRow) (explicit : List (MemberId × MemberId)) (order slots : List ℕ) → IsAboveFirst (IsAbove types) (length types) order → OwnersAreThere types members → (k b u : ℕ) → AreTold types members explicit order slots k → IsBefore types order k b → InBaseChain types b u → AreSlotsOf types members explicit slots u
 chain_told types members explicit order slots first owners k b u told (inl at) (here t) = told at.0 t at.1 at.2
-chain_told types members explicit order slots first owners k b u told (inr past) (here t) = λ m of_. let lt = owners t m of_ in absurd (omega (arith, lt, past))
+chain_told types members explicit order slots first owners k b u told (inr past) (here t) = λ m of_. let lt = owner_there types members owners t m of_ in absurd (omega (arith, lt, past))
 chain_told types members explicit order slots first owners k b u told (inl at) (further t c a base rest) =
     chain_told types members explicit order slots first owners k c a told
     (elim (base_before types order first at.0 t c at.2 base) [
@@ -167,16 +171,19 @@ at_row [] n lt = absurd (omega arith)
 at_row (row ∷ members) zero lt = (row, refl)
 at_row (row ∷ members) (suc n) lt = at_row members n (omega arith)
 
+told_is : (types : List TypeRow) (members : List MemberRow) (explicit : List (MemberId × MemberId)) (slots : List ℕ) (m s : ℕ) → IsTold types members explicit slots m → slice_get slots m ≡ Some s → IsSlot types members explicit m s
+told_is types members explicit slots m s told at = subst (λ (n : ℕ). IsSlot types members explicit m n) (some_number told.0 s (sym told.1 ∙ at)) told.2
+  where
+    some_number : (a b : ℕ) → Some a ≡ Some b → a ≡ b
+    some_number a b h = cc
+
 pub all_told : (types : List TypeRow) (members : List MemberRow) (explicit : List (MemberId × MemberId)) (order slots : List ℕ) → IsAboveFirst (IsAbove types) (length types) order → OwnersAreThere types members → length slots ≡ length members → (k : ℕ) → length order ≤ k → AreTold types members explicit order slots k → AreSlots types members explicit slots
 all_told types members explicit order slots first owners long k le told = record {
   long = long;
   right = λ m s at.
       let row = at_row members m (omega (arith, slice_get_within slots m s at, long)) in
       let of_ : IsOf members row.0.owner.0 m = record { row = row.0; stands = row.1; is = refl } in
-      let place = first.all row.0.owner.0 (owners row.0.owner.0 m of_) in
+      let place = first.all row.0.owner.0 (owners m row.0 row.1) in
       let mine = told place.0 row.0.owner.0 (omega (arith, slice_get_within order place.0 row.0.owner.0 place.1, le)) place.1 m of_ in
-      subst (λ (n : ℕ). IsSlot types members explicit m n) (some_number mine.0 s (sym mine.1 ∙ at)) mine.2;
+      told_is types members explicit slots m s mine at;
 }
-  where
-    some_number : (a b : ℕ) → Some a ≡ Some b → a ≡ b
-    some_number a b h = cc

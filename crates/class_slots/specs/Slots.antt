@@ -16,7 +16,7 @@ pub record AreSlots (types : List TypeRow) (members : List MemberRow) (explicit 
 
 -- each member's type is there
 abbrev pub OwnersAreThere : List TypeRow → List MemberRow → Type 0
-OwnersAreThere types members = (t m : ℕ) → IsOf members t m → t < length types
+OwnersAreThere types members = (m : ℕ) (row : MemberRow) → slice_get members m ≡ Some row → row.owner.0 < length types
 
 -- a named virtual instance method like this one
 abbrev pub IsLike : List TypeRow → List MemberRow → List (MemberId × MemberId) → MemberRow → ℕ → Type 0
