@@ -1,0 +1,15 @@
+-- Which calls cite each file in the proof of their clauses.
+-- pairs::pairs_of, pairs::has_pair
+pub mod Pairing
+-- chain::open_in, chain::open_among, chain::open_from, whole::missing_in_class
+pub mod Least
+-- own::has_implementer
+pub mod Implementers
+-- chain::open_from
+pub mod Interfaces
+-- chain::open_one, chain::open_in, chain::open_among, chain::open_from
+pub mod Open
+-- whole::with_type
+pub mod Marks
+-- chain::is_done, whole::missing_in_class
+pub mod Up
