@@ -53,7 +53,7 @@ grows_labelled s label =
 grows_value : {n m : ℕ} {inner wide : Inner} → Widens n m inner wide → Grows (value n inner) (value m wide) (semicolon ∷ expression_kinds) [] false
 grows_value z =
     to refl refl
-    (grows_or expression_kinds refl refl (to refl refl (grows_then (grows_expression z) refl (λ a. grows_then (grows_sign semicolon refl) refl (λ _. grows_gives (some_form a)))))
+    (grows_or expression_kinds refl refl (grows_then (grows_expression z) refl (λ a. grows_then (grows_sign semicolon refl) refl (λ _. grows_gives (some_form a))))
     (grows_then (grows_sign semicolon refl) refl (λ _. grows_gives no_form)))
 
 grows_of_goto : Grows of_goto of_goto (kw_goto ∷ []) [] false

@@ -263,7 +263,7 @@ enters_structured n x =
     (enters_then (enters_one (kw_try ∷ []) spot_of)
     (λ s. then x.block refl
     (λ b. then (repeat (kw_catch ∷ []) (λ _. true) [] refl refl (λ catches. exact_one_more_catching catches x)) refl
-    (λ catches. then (exact_finally x) refl (λ last. exact_gives (syntax.Try s b catches last)))))))))))
+    (λ catches. then (exact_finally x) refl (λ last. exact_gives (syntax.Try s b catches last))))))))))))
 
 -- all statements
 
