@@ -1,45 +1,41 @@
 -- Jumps, declarations, assignments and calls, with more levels.
-use Rattle.std.proofs.Common.{◌≡◌, ℕ, ◌+◌, ◌<◌, ◌≤◌, max, Bool, true, false, List, [], ◌∷◌, ◌++◌, Option, refl, nat_lt, arith}
-use Rattle.std.proofs.lemmas.Bool.{ltb-true, lt-ltb}
-use Rattle.cs_token.specs.Placed.{Placed as Token}
+use Rattle.std.proofs.Common.{◌≡◌, ℕ, ◌+◌, ◌<◌, ◌≤◌, Bool, true, false, List, [], ◌∷◌, ◌++◌, refl, nat_lt, arith}
+use Rattle.std.proofs.lemmas.Bool.{ltb-true}
 use Rattle.cs_token.specs.declared.lexeme.Lexeme.TheVariants as lexeme
 use Rattle.cs_tree.specs.declared.types.Spot.{Spot}
 use Rattle.cs_tree.specs.declared.types.TypeForm.{TypeForm}
 use Rattle.cs_tree.specs.declared.forms.Syntax.TheVariants as syntax
 use Rattle.cs_productions.specs.declared.values.Measured.{Measured}
 use Rattle.cs_productions.specs.declared.values.Part.TheVariants.{Whole}
-use Rattle.cs_grammar.specs.Grammar.{Grammar, gives, one, ◌>>=◌, either}
-use Rattle.cs_grammar.specs.Exact.{Exact}
-use Rattle.cs_grammar.specs.Whole.{Deeper}
-use Rattle.cs_grammar.specs.Levels.{Yields, Enters}
-use Rattle.cs_grammar.proofs.Basics.{exact_gives, wider}
+use Rattle.cs_grammar.specs.Grammar.{◌>>=◌}
+use Rattle.cs_grammar.specs.Levels.{Enters}
+use Rattle.cs_grammar.proofs.Basics.{exact_gives}
 use Rattle.cs_grammar.proofs.Bind.{then}
 use Rattle.cs_grammar.proofs.Either.{or}
-use Rattle.cs_grammar.proofs.Limited.{guard}
 use Rattle.cs_grammar.proofs.Deeper.{enters_one, enters_then}
-use Rattle.cs_productions.specs.Kinds.{names, global, paren, unparen, bracket, unbracket, equals, colon, colons, semicolon, keyword_types, expression_kinds, counted_kinds, plus_equals, kw_base, kw_new, kw_default, kw_checked, kw_unchecked, kw_goto, kw_break, kw_continue, kw_return, kw_throw, kw_bool}
-use Rattle.cs_productions.specs.Tokens.{kind, sign, spot_of, text_of, name_of, simple_of}
+use Rattle.cs_productions.specs.Kinds.{names, global, paren, unparen, bracket, unbracket, equals, colon, colons, semicolon, keyword_types, expression_kinds, counted_kinds, plus_equals, kw_base, kw_new, kw_default, kw_checked, kw_unchecked, kw_goto, kw_break, kw_continue, kw_return, kw_throw}
+use Rattle.cs_productions.specs.Tokens.{kind, sign, spot_of, text_of, simple_of}
 use Rattle.cs_productions.specs.Inner.{Inner}
 use Rattle.cs_productions.specs.Types.{global_type, array_of, keyword_type_at}
 use Rattle.cs_productions.specs.Calls.{postfixes, index_of}
 use Rattle.cs_productions.specs.Primaries.{path_alone, global_leaf}
 use Rattle.cs_productions.specs.Operators.{in_parentheses}
 use Rattle.cs_productions.proofs.Follow.{whole_follow, postfix_follow, AreExact}
-use Rattle.cs_productions.proofs.ExactTokens.{sample, sample_of, global_sample, exact_sign, exact_place, exact_name_text, exact_any_name}
-use Rattle.cs_productions.proofs.ExactTypes.{exact_path, exact_ranks, exact_type_of_keyword}
+use Rattle.cs_productions.proofs.ExactTokens.{sample, sample_of, global_sample, exact_sign, exact_name_text}
+use Rattle.cs_productions.proofs.ExactTypes.{exact_ranks, exact_type_of_keyword}
 use Rattle.cs_productions.proofs.ExactCalls.{exact_postfixes}
 use Rattle.cs_productions.proofs.ExactPrimaries.{exact_called_path}
 use Rattle.cs_productions.proofs.Heights.{AtMost, yields_one}
-use Rattle.cs_productions.proofs.Deepening.{enters_or, enters_where, enters_narrow}
+use Rattle.cs_productions.proofs.Deepening.{enters_or, enters_where}
 use Rattle.cs_productions.proofs.DeeperTypes.{deeper_name_text, deeper_ranks, deeper_type_of_keyword}
 use Rattle.cs_productions.proofs.Growing.{Grows, grows, to, grows_gives, grows_one, grows_sign, grows_place, grows_any_name, grows_then, grows_with, grows_or, grows_where}
 use Rattle.cs_productions.proofs.DeeperCalls.{Widens, grows_forms, wider_room, deeper_postfixes, grows_postfixes}
 use Rattle.cs_productions.proofs.DeeperPrimaries.{grows_path, grows_of_base, grows_called_path, enters_called_path, grows_of_global, grows_of_new, grows_of_default, grows_of_checked, enters_of_base, enters_of_new, enters_of_default, enters_of_checked}
 use Rattle.cs_productions.proofs.DeeperLevels.{deeper_forms_at}
 use Rattle.cs_statements.specs.Kinds.{name_kinds, unnamed_kinds, compound_operators, jump_kinds, unnamed_primary_kinds}
-use Rattle.cs_statements.specs.Jumps.{expression, labelled, some_form, no_form, value_given, no_value, value, of_goto, of_break, of_continue, of_return, of_throw, jump}
-use Rattle.cs_statements.specs.Actions.{declare_of, declared, keyword_declared, assign_of, compound_assign_of, invoke_of, assigned, compounded, set_to, acted, action_to, act, parenthesized, counted_primary, of_unnamed, unnamed_primary, of_named, primary, primary_act, postfix_act, named_statement, index_act, array_declared, bracket_statement, called_or_alone, path_act, path_statement, global_statement}
-use Rattle.cs_statements.proofs.ExactActions.{exact_expression, exact_labelled, exact_value, exact_jump, exact_declared, exact_keyword_declared, exact_set_to, action_kinds, exact_act, exact_parenthesized, exact_counted_primary, exact_of_unnamed, exact_unnamed_primary, exact_postfix_act, exact_index_act, exact_array_declared, exact_path_statement}
+use Rattle.cs_statements.specs.Jumps.{expression, labelled, some_form, no_form, value, of_goto, of_break, of_continue, of_return, of_throw, jump}
+use Rattle.cs_statements.specs.Actions.{declare_of, declared, keyword_declared, assign_of, compound_assign_of, invoke_of, set_to, action_to, act, parenthesized, counted_primary, of_unnamed, unnamed_primary, of_named, primary, primary_act, postfix_act, named_statement, index_act, array_declared, bracket_statement, called_or_alone, path_statement, global_statement}
+use Rattle.cs_statements.proofs.ExactActions.{exact_expression, exact_labelled, exact_value, exact_declared, action_kinds, exact_act, exact_counted_primary, exact_postfix_act, exact_index_act, exact_path_statement}
 
 pub grows_expression : {n m : ℕ} {inner wide : Inner} → Widens n m inner wide → Grows (expression n inner) (expression m wide) expression_kinds whole_follow false
 grows_expression {m = m} z = grows (deeper_forms_at Whole z) (exact_expression m z.exact)

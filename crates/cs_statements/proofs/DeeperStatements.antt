@@ -1,5 +1,5 @@
 -- Statements that hold blocks, all statements, and blocks, with more levels and more blocks.
-use Rattle.std.proofs.Common.{◌≡◌, ℕ, zero, suc, ◌+◌, ◌<◌, ◌≤◌, Bool, true, false, List, [], ◌∷◌, ◌++◌, Option, refl, nat_lt, arith}
+use Rattle.std.proofs.Common.{◌≡◌, ℕ, zero, suc, ◌+◌, ◌<◌, ◌≤◌, Bool, true, false, List, [], ◌∷◌, ◌++◌, refl, nat_lt, arith}
 use Rattle.std.proofs.lemmas.Bool.{ltb-true, lt-ltb}
 use Rattle.cs_token.specs.Placed.{Placed as Token}
 use Rattle.cs_token.specs.declared.lexeme.Lexeme.TheVariants as lexeme
@@ -14,14 +14,13 @@ use Rattle.cs_tree.specs.declared.forms.Catching.{Catching}
 use Rattle.cs_tree.specs.declared.forms.Syntax.{Syntax}
 use Rattle.cs_tree.specs.declared.forms.Syntax.TheVariants as syntax
 use Rattle.cs_productions.specs.declared.values.Measured.{Measured}
-use Rattle.cs_grammar.specs.Kinds.{has, disjoint, subset}
-use Rattle.cs_grammar.specs.Grammar.{Grammar, gives, one, ◌>>=◌, either, turns}
+use Rattle.cs_grammar.specs.Kinds.{has}
+use Rattle.cs_grammar.specs.Grammar.{Grammar, gives, ◌>>=◌, turns}
 use Rattle.cs_grammar.specs.Exact.{Exact}
 use Rattle.cs_grammar.specs.Whole.{Deeper}
-use Rattle.cs_grammar.specs.Levels.{Yields, Enters}
+use Rattle.cs_grammar.specs.Levels.{Enters}
 use Rattle.cs_grammar.proofs.Basics.{exact_gives, wider}
 use Rattle.cs_grammar.proofs.Bind.{then}
-use Rattle.cs_grammar.proofs.Either.{or}
 use Rattle.cs_grammar.proofs.Turns.{repeat}
 use Rattle.cs_grammar.proofs.Deeper.{yields_any, enters_one, enters_then, deeper_turns}
 use Rattle.cs_productions.specs.Kinds.{names, global, brace, unbrace, paren, unparen, equals, colon, semicolon, keyword_types, kw_if, kw_else, kw_while, kw_do, kw_for, kw_foreach, kw_in, kw_using, kw_lock, kw_switch, kw_case, kw_default, kw_try, kw_catch, kw_finally}
@@ -37,10 +36,10 @@ use Rattle.cs_productions.proofs.Growing.{Grows, grows, to, grows_gives, grows_o
 use Rattle.cs_productions.proofs.DeeperCalls.{Widens, block_room}
 use Rattle.cs_productions.proofs.DeeperLevels.{widens}
 use Rattle.cs_statements.specs.Kinds.{name_kinds, literal_kinds, jump_kinds, block_kinds, statement_kinds, unnamed_primary_kinds}
-use Rattle.cs_statements.specs.Structured.{tested, some_block, no_block, keyword_block, maybe_block, of_if, of_while, of_do, step, of_for, over, foreach_of, using_of, of_foreach, of_using, of_lock, case_label, default_label, label, one_more_label, section_of, section, one_more_section, of_switch, some_name, no_name, maybe_name, catching_of, catching, one_more_catching, of_try, structured}
-use Rattle.cs_statements.specs.Blocks.{simple_statement, statement, one_more_statement, block_of, braced, empty_block, block_at}
+use Rattle.cs_statements.specs.Structured.{tested, some_block, no_block, maybe_block, of_if, of_while, of_do, of_for, over, foreach_of, using_of, of_foreach, of_using, of_lock, label, one_more_label, section_of, section, one_more_section, of_switch, some_name, no_name, maybe_name, catching_of, catching, one_more_catching, of_try, structured}
+use Rattle.cs_statements.specs.Blocks.{simple_statement, statement, one_more_statement, block_of, braced, block_at}
 use Rattle.cs_statements.proofs.ExactActions.{exact_expression, exact_primary, exact_step}
-use Rattle.cs_statements.proofs.ExactStatements.{simple_kinds, exact_tested, exact_else, exact_finally, exact_label, exact_one_more_label, exact_one_more_section, exact_maybe_name, exact_one_more_catching, exact_structured, exact_one_more_statement, exact_statement, statement_follow, exact_block_at}
+use Rattle.cs_statements.proofs.ExactStatements.{simple_kinds, exact_tested, exact_else, exact_finally, exact_one_more_label, exact_one_more_section, exact_maybe_name, exact_one_more_catching, exact_structured, statement_follow, exact_block_at}
 use Rattle.cs_statements.proofs.DeeperActions.{grows_expression, grows_jump, enters_jump, grows_keyword_declared, enters_keyword_declared, grows_step, grows_primary, grows_primary_act, enters_primary_act, grows_named_statement, enters_named_statement, grows_global_statement, enters_global_statement}
 
 -- a block where there is room for one

@@ -1,6 +1,5 @@
 -- Jumps, declarations, assignments and calls are exact.
-use Rattle.std.proofs.Common.{◌≡◌, ℕ, Bool, true, false, List, [], ◌∷◌, ◌++◌, Option, refl, nat_lt}
-use Rattle.cs_token.specs.Placed.{Placed as Token}
+use Rattle.std.proofs.Common.{ℕ, Bool, true, false, List, [], ◌∷◌, ◌++◌, refl, nat_lt}
 use Rattle.cs_token.specs.declared.lexeme.Lexeme.TheVariants as lexeme
 use Rattle.cs_tree.specs.declared.types.Spot.{Spot}
 use Rattle.cs_tree.specs.declared.types.TypeForm.{TypeForm}
@@ -11,7 +10,7 @@ use Rattle.cs_grammar.proofs.Basics.{exact_gives, exact_one, wider}
 use Rattle.cs_grammar.proofs.Bind.{then}
 use Rattle.cs_grammar.proofs.Either.{or}
 use Rattle.cs_grammar.proofs.Limited.{guard}
-use Rattle.cs_productions.specs.Kinds.{names, global, paren, unparen, bracket, unbracket, equals, colon, colons, semicolon, keyword_types, expression_kinds, counted_kinds, plus_equals, number, kw_base, kw_new, kw_default, kw_goto, kw_break, kw_continue, kw_return, kw_throw}
+use Rattle.cs_productions.specs.Kinds.{names, global, paren, unparen, bracket, unbracket, equals, colon, colons, semicolon, keyword_types, expression_kinds, counted_kinds, plus_equals, kw_base, kw_new, kw_default, kw_goto, kw_break, kw_continue, kw_return, kw_throw}
 use Rattle.cs_productions.specs.Tokens.{kind, simple_of}
 use Rattle.cs_productions.specs.Inner.{Inner}
 use Rattle.cs_productions.specs.Types.{global_type}
@@ -23,9 +22,9 @@ use Rattle.cs_productions.proofs.ExactTypes.{exact_path, exact_ranks, exact_type
 use Rattle.cs_productions.proofs.ExactCalls.{exact_postfixes}
 use Rattle.cs_productions.proofs.ExactPrimaries.{exact_of_base, exact_called_path, exact_of_global, exact_of_new, exact_of_default, exact_of_checked}
 use Rattle.cs_productions.proofs.ExactLevels.{exact_forms_at}
-use Rattle.cs_statements.specs.Kinds.{name_kinds, literal_kinds, unnamed_kinds, compound_operators, jump_kinds, unnamed_primary_kinds}
+use Rattle.cs_statements.specs.Kinds.{name_kinds, unnamed_kinds, compound_operators, jump_kinds, unnamed_primary_kinds}
 use Rattle.cs_statements.specs.Jumps.{expression, labelled, value_given, no_value, value, of_goto, of_break, of_continue, of_return, of_throw, jump}
-use Rattle.cs_statements.specs.Actions.{declared, keyword_declared, invoke_of, assigned, compounded, set_to, acted, action_to, act, parenthesized, counted_primary, of_unnamed, unnamed_primary, of_named, primary, primary_act, postfix_act, named_statement, index_act, array_declared, bracket_statement, called_or_alone, path_act, path_statement, global_statement}
+use Rattle.cs_statements.specs.Actions.{declared, keyword_declared, invoke_of, assigned, compounded, set_to, action_to, act, parenthesized, counted_primary, of_unnamed, unnamed_primary, of_named, primary, primary_act, postfix_act, named_statement, index_act, array_declared, bracket_statement, called_or_alone, path_act, path_statement, global_statement}
 
 pub exact_expression : {inner : Inner} (n : ℕ) → AreExact inner → Exact kind (expression n inner) expression_kinds whole_follow false
 exact_expression n x = exact_forms_at n Whole x

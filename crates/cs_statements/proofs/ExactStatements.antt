@@ -1,17 +1,12 @@
 -- Statements that hold blocks, all statements, and blocks are exact.
-use Rattle.std.proofs.Common.{◌≡◌, ℕ, zero, suc, true, false, List, [], ◌∷◌, ◌++◌, Option, refl, nat_lt}
+use Rattle.std.proofs.Common.{ℕ, zero, suc, true, false, List, [], ◌∷◌, ◌++◌, refl, nat_lt}
 use Rattle.cs_token.specs.Placed.{Placed as Token}
 use Rattle.cs_token.specs.declared.lexeme.Lexeme.TheVariants as lexeme
-use Rattle.cs_tree.specs.declared.types.Spot.{Spot}
-use Rattle.cs_tree.specs.declared.types.Name.{Name}
-use Rattle.cs_tree.specs.declared.types.TypeForm.{TypeForm}
 use Rattle.cs_tree.specs.declared.forms.SwitchLabel.{SwitchLabel}
-use Rattle.cs_tree.specs.declared.forms.Block.{Block}
 use Rattle.cs_tree.specs.declared.forms.Section.{Section}
 use Rattle.cs_tree.specs.declared.forms.Catching.{Catching}
 use Rattle.cs_tree.specs.declared.forms.Syntax.{Syntax}
 use Rattle.cs_productions.specs.declared.values.Measured.{Measured}
-use Rattle.cs_grammar.specs.Kinds.{has}
 use Rattle.cs_grammar.specs.Grammar.{Grammar}
 use Rattle.cs_grammar.specs.Exact.{Exact}
 use Rattle.cs_grammar.proofs.Basics.{exact_gives, exact_one, wider}
@@ -24,11 +19,11 @@ use Rattle.cs_productions.specs.Tokens.{kind, literal_of}
 use Rattle.cs_productions.specs.Inner.{Inner}
 use Rattle.cs_productions.specs.Levels.{below}
 use Rattle.cs_productions.proofs.Follow.{AreExact}
-use Rattle.cs_productions.proofs.ExactTokens.{sample, sample_of, exact_sign, exact_place, exact_any_name}
+use Rattle.cs_productions.proofs.ExactTokens.{sample, exact_sign, exact_place, exact_any_name}
 use Rattle.cs_productions.proofs.ExactTypes.{exact_ty}
 use Rattle.cs_productions.proofs.ExactLevels.{exact_below}
 use Rattle.cs_statements.specs.Kinds.{name_kinds, literal_kinds, jump_kinds, block_kinds, statement_kinds, unnamed_primary_kinds}
-use Rattle.cs_statements.specs.Structured.{tested, keyword_block, maybe_block, of_if, of_while, of_do, step, of_for, over, foreach_of, using_of, of_foreach, of_using, of_lock, case_label, default_label, label, one_more_label, section, one_more_section, of_switch, name_given, maybe_name, catching, one_more_catching, of_try, structured}
+use Rattle.cs_statements.specs.Structured.{tested, maybe_block, of_if, of_while, of_do, of_for, foreach_of, using_of, of_foreach, of_using, of_lock, case_label, default_label, label, one_more_label, section, one_more_section, of_switch, maybe_name, catching, one_more_catching, of_try, structured}
 use Rattle.cs_statements.specs.Blocks.{simple_statement, statement, one_more_statement, braced, empty_block, block_at}
 use Rattle.cs_statements.proofs.ExactActions.{exact_expression, exact_jump, exact_keyword_declared, exact_step, exact_primary, exact_primary_act, exact_named_statement, exact_global_statement}
 

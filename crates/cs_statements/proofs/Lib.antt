@@ -3,3 +3,4 @@ pub mod ExactActions
 pub mod ExactStatements
 pub mod DeeperActions
 pub mod DeeperStatements
+pub mod OneBlock

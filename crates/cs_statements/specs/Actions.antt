@@ -1,5 +1,5 @@
 -- Declarations, assignments and calls as statements (ECMA-334, 12.21, 13.6.2, 13.7).
-use Rattle.std.specs.Prelude.{◌≡◌, ℕ, true, false, Bool, cond, ◌==◌, List, [], ◌∷◌, nat_lt}
+use Rattle.std.specs.Prelude.{ℕ, true, false, Bool, cond, ◌==◌, List, [], ◌∷◌, nat_lt}
 use Rattle.cs_token.specs.Placed.{Placed as Token}
 use Rattle.cs_tree.specs.declared.types.Spot.{Spot}
 use Rattle.cs_tree.specs.declared.types.Name.{Name}
@@ -18,7 +18,7 @@ use Rattle.cs_productions.specs.Tokens.{kind, sign, place, spot_of, text_of, any
 use Rattle.cs_productions.specs.Types.{path, global_type, array_of, ranks, type_of_keyword}
 use Rattle.cs_productions.specs.Inner.{Inner}
 use Rattle.cs_productions.specs.Calls.{postfixes, index_of}
-use Rattle.cs_productions.specs.Primaries.{of_base, path_alone, called_path, global_leaf, of_global, of_new, of_default, of_checked, of_simple}
+use Rattle.cs_productions.specs.Primaries.{of_base, path_alone, called_path, global_leaf, of_global, of_new, of_default, of_checked}
 use Rattle.cs_productions.specs.Operators.{in_parentheses}
 use Rattle.cs_statements.specs.Kinds.{name_kinds, unnamed_kinds, compound_operators}
 use Rattle.cs_statements.specs.Jumps.{expression, labelled}

@@ -1,6 +1,6 @@
 -- Blocks (ECMA-334, 13.3) within a number of blocks: each that is open in another takes one. A statement that can't do without a block
 -- is too deep where there is no room for one.
-use Rattle.std.specs.Prelude.{◌≡◌, ℕ, zero, suc, true, List, [], ◌∷◌, ◌++◌, nat_lt}
+use Rattle.std.specs.Prelude.{ℕ, zero, suc, true, List, [], ◌∷◌, ◌++◌, nat_lt}
 use Rattle.cs_token.specs.Placed.{Placed as Token}
 use Rattle.cs_tree.specs.declared.types.Spot.{Spot}
 use Rattle.cs_tree.specs.declared.forms.Block.{Block}
@@ -10,7 +10,7 @@ use Rattle.cs_productions.specs.Kinds.{global, brace, unbrace, keyword_types, kw
 use Rattle.cs_productions.specs.Tokens.{kind, sign, place}
 use Rattle.cs_productions.specs.Inner.{Inner}
 use Rattle.cs_productions.specs.Levels.{below}
-use Rattle.cs_statements.specs.Kinds.{name_kinds, jump_kinds, block_kinds, statement_kinds, unnamed_primary_kinds}
+use Rattle.cs_statements.specs.Kinds.{name_kinds, jump_kinds, block_kinds, statement_kinds}
 use Rattle.cs_statements.specs.Jumps.{jump}
 use Rattle.cs_statements.specs.Actions.{keyword_declared, global_statement, named_statement, primary_act}
 use Rattle.cs_statements.specs.Structured.{structured, of_switch}
@@ -48,3 +48,18 @@ empty_block = do _ ← sign brace; end ← place unbrace; gives (block_of [] end
 abbrev pub block_at : ℕ → ℕ → ℕ → Grammar Token Block
 block_at levels ranks zero = empty_block
 block_at levels ranks (suc blocks) = braced (statement levels (below (block_at levels ranks blocks) blocks ranks levels))
+
+-- The depths of a text: an expression has at most so many levels, a type so many pairs of brackets, and so many blocks are open in one
+-- another.
+abbrev pub text_levels : ℕ
+text_levels = 400
+
+abbrev pub text_ranks : ℕ
+text_ranks = 33
+
+abbrev pub text_blocks : ℕ
+text_blocks = 200
+
+-- a block within the depths of a text
+abbrev pub block_in_text : Grammar Token Block
+block_in_text = block_at text_levels text_ranks text_blocks

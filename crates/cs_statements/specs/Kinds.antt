@@ -1,6 +1,6 @@
 -- Kinds of tokens that statements begin with.
 use Rattle.std.specs.Prelude.{ℕ, List, [], ◌∷◌, ◌++◌}
-use Rattle.cs_productions.specs.Kinds.{name, global, getter, setter, indexer, number, suffixed, character, text, paren, plus_equals, minus_equals, times_equals, amp_equals, bar_equals, caret_equals, keyword_types, counted_kinds, kw_true, kw_false, kw_null, kw_this, kw_base, kw_new, kw_default, kw_checked, kw_unchecked, kw_goto, kw_break, kw_continue, kw_return, kw_throw, kw_switch, kw_if, kw_while, kw_do, kw_for, kw_foreach, kw_using, kw_lock, kw_try}
+use Rattle.cs_productions.specs.Kinds.{name, global, getter, setter, indexer, number, suffixed, character, text, plus_equals, minus_equals, times_equals, amp_equals, bar_equals, caret_equals, keyword_types, counted_kinds, kw_true, kw_false, kw_null, kw_this, kw_base, kw_goto, kw_break, kw_continue, kw_return, kw_throw, kw_switch, kw_if, kw_while, kw_do, kw_for, kw_foreach, kw_using, kw_lock, kw_try}
 
 -- names but `global`
 abbrev pub name_kinds : List ℕ

@@ -1,10 +1,9 @@
 -- Statements that hold blocks (ECMA-334, 13.8, 13.9, 13.11, 13.13, 13.14).
-use Rattle.std.specs.Prelude.{◌≡◌, ℕ, true, List, [], ◌∷◌, ◌++◌, Option, Some, None, nat_lt}
+use Rattle.std.specs.Prelude.{ℕ, true, List, [], ◌∷◌, ◌++◌, Option, Some, None, nat_lt}
 use Rattle.cs_token.specs.Placed.{Placed as Token}
 use Rattle.cs_tree.specs.declared.types.Spot.{Spot}
 use Rattle.cs_tree.specs.declared.types.Name.{Name}
 use Rattle.cs_tree.specs.declared.types.TypeForm.{TypeForm}
-use Rattle.cs_tree.specs.declared.forms.Literal.{Literal}
 use Rattle.cs_tree.specs.declared.forms.SwitchLabel.{SwitchLabel}
 use Rattle.cs_tree.specs.declared.forms.SwitchLabel.TheVariants as switch_label
 use Rattle.cs_tree.specs.declared.forms.Action.{Action}
@@ -14,7 +13,7 @@ use Rattle.cs_tree.specs.declared.forms.Catching.{Catching}
 use Rattle.cs_tree.specs.declared.forms.Syntax.{Syntax}
 use Rattle.cs_tree.specs.declared.forms.Syntax.TheVariants as syntax
 use Rattle.cs_productions.specs.declared.values.Measured.{Measured}
-use Rattle.cs_grammar.specs.Grammar.{Grammar, gives, one, ◌>>=◌, either, guarded, turns}
+use Rattle.cs_grammar.specs.Grammar.{Grammar, gives, one, ◌>>=◌, either, turns}
 use Rattle.cs_productions.specs.Kinds.{names, brace, unbrace, paren, unparen, equals, colon, semicolon, kw_if, kw_else, kw_while, kw_do, kw_for, kw_foreach, kw_in, kw_using, kw_lock, kw_switch, kw_case, kw_default, kw_try, kw_catch, kw_finally}
 use Rattle.cs_productions.specs.Tokens.{kind, sign, place, any_name, literal_of}
 use Rattle.cs_productions.specs.Types.{ty}

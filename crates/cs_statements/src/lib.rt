@@ -9,4 +9,4 @@
 
 mod laws;
 
-pub use laws::{one_block, one_expression};
+pub use laws::{one_block, one_block_in_text, one_expression};

@@ -1,4 +1,4 @@
-use Rattle.std.proofs.Common.{ℕ, ◌+◌, ◌<◌, arith}
+use Rattle.std.proofs.Common.{◌+◌, arith}
 use Rattle.cs_productions.specs.declared.values.Part.TheVariants.{Whole}
 use Rattle.cs_productions.proofs.DeeperLevels.{deeper_forms_at}
 use Rattle.cs_productions.proofs.OneAnswers.{answers_once}
