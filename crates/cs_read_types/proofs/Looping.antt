@@ -1,11 +1,11 @@
 -- How a loop over rounds ends: no round begins, there is no room, or a round fails.
-use Rattle.std.proofs.Common.{◌≡◌, ℕ, suc, ◌+◌, ◌-◌, ◌<◌, ◌≤◌, nat_lt, Bool, true, false, List, refl, ◌∙◌, ap, Ok, Err, arith}
+use Rattle.std.proofs.Common.{◌≡◌, ℕ, suc, ◌+◌, ◌-◌, ◌<◌, ◌≤◌, nat_lt, Bool, true, false, List, refl, ◌∙◌, ap, Err, arith}
 use Rattle.std.proofs.lemmas.Bool.{ltb-true}
 use Rattle.dc_base.specs.declared.failure.Or.{Or}
 use Rattle.dc_base.specs.declared.failure.Or.TheVariants.{NoMemory, Fault as WithFault}
 use Rattle.cs_grammar.specs.declared.fault.Fault.{Fault}
 use Rattle.cs_grammar.specs.Kinds.{begins}
-use Rattle.cs_grammar.specs.Grammar.{Read, Grammar, and_then, read_rounds}
+use Rattle.cs_grammar.specs.Grammar.{Read, Grammar, read_rounds}
 use Rattle.cs_grammar.specs.Reads.{is_deep, Reads}
 use Rattle.cs_grammar.proofs.Turns.{round}
 use Rattle.cs_grammar.proofs.Bind.{and_then-err}

@@ -1,5 +1,5 @@
 -- What one token leaves, where the token itself was read.
-use Rattle.std.proofs.Common.{◌≡◌, ℕ, true, List, [], ◌∷◌, ap, Ok}
+use Rattle.std.proofs.Common.{◌≡◌, ℕ, List, [], ◌∷◌, ap, Ok}
 use Rattle.cs_grammar.specs.Grammar.{TakesOne, read_one}
 use Rattle.cs_grammar.proofs.Basics.{one_sound, one_again}
 

@@ -77,11 +77,7 @@ fn one_more_rank(tokens: &mut Cursor<Token>, ty: TypeForm) -> Result<TypeForm, O
 }
 
 /// The pairs of brackets behind a type, which may have at most so many.
-pub fn ranks(
-    tokens: &mut Cursor<Token>,
-    limit: u16,
-    first: TypeForm,
-) -> Result<TypeForm, Or<Fault>>
+pub fn ranks(tokens: &mut Cursor<Token>, limit: u16, first: TypeForm) -> Result<TypeForm, Or<Fault>>
     ensures { Reads ((ranks_of limit first).reads tokens.old) result tokens.new }
 {
     let mut ty = first;

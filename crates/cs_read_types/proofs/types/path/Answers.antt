@@ -1,4 +1,4 @@
-use Rattle.std.proofs.Common.{◌<◌, true, [], ◌∷◌, refl, sym, ◌∙◌, arith}
+use Rattle.std.proofs.Common.{true, [], ◌∷◌, refl, sym, ◌∙◌, arith}
 use Rattle.cs_grammar.proofs.Turns.{round_on}
 use Rattle.cs_productions.specs.Kinds.{dot}
 use Rattle.cs_productions.specs.Tokens.{kind}
