@@ -4,7 +4,6 @@ use Rattle.dc_base.specs.declared.names.MemberId.{MemberId}
 use Rattle.class_rows.specs.declared.row.TypeRow.{TypeRow}
 use Rattle.class_rows.specs.declared.row.MemberRow.{MemberRow}
 use Rattle.class_rows.specs.Table.{IsClassTable}
-use Rattle.class_parts.specs.declared.chain.Orders.{Orders}
 use Rattle.class_parts.specs.Orders.{AreOrders}
 use Rattle.class_alike.specs.declared.named.Named.{Named}
 use Rattle.class_alike.specs.Named.{IsNamed}
