@@ -1,12 +1,12 @@
 -- Marks along a base chain.
-use Rattle.std.proofs.Common.{◌≡◌, ◌⊎◌, ℕ, suc, ◌+◌, ◌<◌, ◌≤◌, Bool, true, false, Option, Some, None, List, [], ◌∷◌, length, refl, sym, ◌∙◌, ap, subst, inl, inr, arith}
+use Rattle.std.proofs.Common.{◌≡◌, ◌⊎◌, ℕ, suc, ◌<◌, ◌≤◌, Bool, true, Option, Some, None, List, length, refl, sym, ◌∙◌, subst, inl, inr, arith}
 use Rattle.std.proofs.Math.ListN.{set, length-set}
 use Rattle.std.specs.List.{slice_get}
 use Rattle.std.specs.Prelude.{IfSome, IfNone}
 use Rattle.std.proofs.lemmas.Bool.{cases_lt}
 use Rattle.std.proofs.lemmas.List.{set_past}
 use Rattle.dc_base.specs.declared.names.TypeId.{TypeId}
-use Rattle.class_chains.specs.Ends.{Reaches, here, further, IsAboveFirst}
+use Rattle.class_chains.specs.Ends.{here, further, IsAboveFirst}
 use Rattle.class_rows.specs.declared.row.TypeRow.{TypeRow}
 use Rattle.class_rows.specs.Types.{IsBase, InBaseChain, IsAbove}
 use Rattle.class_parts.proofs.Climb.{height, lower_base, reached, one_base}

@@ -1,5 +1,5 @@
 -- The least duplicate, of which the least twin, the least clash with a first and the least that is one by itself tell.
-use Rattle.std.proofs.Common.{◌≡◌, ◌≢◌, ◌⊎◌, ℕ, zero, suc, ◌+◌, ◌<◌, ◌≤◌, Bool, true, false, Option, Some, None, List, [], length, map, get_or, refl, sym, ◌∙◌, ap, subst, inl, inr, arith}
+use Rattle.std.proofs.Common.{◌≡◌, ◌≢◌, ◌⊎◌, ℕ, zero, suc, ◌+◌, ◌<◌, ◌≤◌, Bool, true, false, Option, Some, None, List, length, map, get_or, refl, sym, ◌∙◌, ap, subst, inl, inr, arith}
 use Rattle.std.specs.List.{slice_get}
 use Rattle.std.proofs.lemmas.Bool.{cases_lt, cases_order}
 use Rattle.std.proofs.lemmas.Option.{slice_get_within, get_or_from_slice_get}
@@ -13,15 +13,14 @@ use Rattle.class_rows.specs.declared.row.Param.{Param}
 use Rattle.class_rows.specs.declared.row.Sort.{Sort}
 use Rattle.class_rows.specs.declared.row.Sort.TheVariants.{Getter, Setter}
 use Rattle.class_rows.specs.Names.{IsReference}
-use Rattle.class_rows.specs.Members.{IsNameless, Agree, MayShareName, IsProperty, AreOverloads, IsOverloaded, known_as, name_of, sort_of, types_of}
-use Rattle.class_rows.specs.Unique.{AreBeside, IsAgreeing, IsClashing, HasNameOfNested, IsMisplaced, IsDuplicate}
+use Rattle.class_rows.specs.Members.{IsNameless, Agree, MayShareName, AreOverloads, IsOverloaded, known_as, name_of, sort_of, types_of}
+use Rattle.class_rows.specs.Unique.{AreBeside, IsAgreeing, IsClashing, IsDuplicate}
 use Rattle.class_keys.specs.Least.{IsLeastOf}
 use Rattle.class_keys.proofs.Items.{one_item, item_at}
 use Rattle.class_alike.specs.Named.{AreMarks}
-use Rattle.class_members.specs.Fieldless.{IsMisplacedRow}
 use Rattle.class_members.specs.Known.{IsLone, IsLoneRow}
 use Rattle.class_members.specs.Twins.{told_by, told_types, AreOneOverload, AreTwins, HasTwin}
-use Rattle.class_members.specs.Groups.{GoesWith, IsClashOf, IsFirstClash}
+use Rattle.class_members.specs.Groups.{GoesWith, IsFirstClash}
 
 -- the least number of one fact is that of another, where the first comes no later
 pub least_of_sooner : (P Q : ℕ → Type 0) (least : Option ℕ) → ((n : ℕ) → P n → Q n) → ((n : ℕ) → Q n → ((k : ℕ) → k ≤ n → P k → ⊥) → ⊥) → IsLeastOf P least → IsLeastOf Q least

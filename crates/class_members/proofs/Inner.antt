@@ -1,12 +1,11 @@
 -- The names of the nested types among the first so many.
-use Rattle.std.proofs.Common.{◌≡◌, ◌⊎◌, ℕ, ◌+◌, ◌<◌, ◌≤◌, Bool, true, false, Option, Some, None, List, [], ◌∷◌, ◌++◌, length, get_or, refl, sym, ◌∙◌, ap, subst, inl, inr, arith}
+use Rattle.std.proofs.Common.{◌≡◌, ◌⊎◌, ℕ, ◌+◌, ◌<◌, ◌≤◌, Bool, true, false, Option, Some, None, List, [], ◌∷◌, ◌++◌, length, refl, sym, ◌∙◌, ap, subst, inl, inr, arith}
 use Rattle.std.specs.List.{slice_get, list_any}
 use Rattle.std.proofs.lemmas.Bool.{cases_lt}
 use Rattle.std.proofs.lemmas.Option.{slice_get_within}
 use Rattle.indexmap.specs.IndexSet.{insert_key}
 use Rattle.dc_base.specs.declared.names.TypeId.{TypeId}
 use Rattle.class_rows.specs.declared.row.TypeRow.{TypeRow}
-use Rattle.class_rows.specs.Types.{HasType, IsOuter}
 use Rattle.class_keys.proofs.Items.{one_item, item_kept, last_item, pushed_item}
 use Rattle.class_keys.proofs.Found.{found_in, any_at}
 use Rattle.class_members.specs.declared.nested.NameIn.{NameIn}

@@ -1,5 +1,5 @@
 -- Where each key stands first, among the first so many.
-use Rattle.std.proofs.Common.{◌≡◌, ◌≢◌, ◌⊎◌, ℕ, ◌+◌, ◌<◌, ◌≤◌, Bool, true, false, Option, Some, None, List, [], ◌∷◌, ◌++◌, length, get_or, not, refl, sym, ◌∙◌, ap, subst, inl, inr, arith}
+use Rattle.std.proofs.Common.{◌≡◌, ℕ, ◌+◌, ◌<◌, Bool, true, false, Some, None, List, [], ◌∷◌, ◌++◌, length, get_or, not, refl, sym, ◌∙◌, ap, subst, inl, inr, arith}
 use Rattle.std.specs.Prelude.{◌||◌, if◌then◌else◌}
 use Rattle.std.specs.Cmp.{IsEquivalence}
 use Rattle.std.specs.List.{list_any, slice_get}
@@ -10,7 +10,7 @@ use Rattle.std.proofs.lemmas.Map.Steps.{list_any_congr}
 use Rattle.std.proofs.lemmas.Option.{slice_get_within}
 use Rattle.indexmap.specs.IndexSet.{insert_key}
 use Rattle.dc_causes.specs.First.{IsLeast}
-use Rattle.class_keys.proofs.Items.{one_item, item_at, item_kept, last_item, pushed_item, read_item}
+use Rattle.class_keys.proofs.Items.{one_item, last_item, pushed_item, read_item}
 use Rattle.class_keys.proofs.Found.{any_at}
 use Rattle.class_members.specs.Firsts.{IsAlsoAt, AreFirsts}
 

@@ -1,5 +1,5 @@
 -- The first members of their names, and those that may not share one with the first.
-use Rattle.std.proofs.Common.{◌≡◌, ◌≢◌, ◌⊎◌, ℕ, ◌+◌, ◌<◌, ◌≤◌, Bool, true, false, Option, Some, None, List, length, refl, sym, ◌∙◌, ap, subst, inl, inr, arith}
+use Rattle.std.proofs.Common.{◌≡◌, ◌⊎◌, ℕ, ◌+◌, ◌<◌, ◌≤◌, Bool, true, false, Option, Some, None, List, length, refl, sym, ◌∙◌, ap, subst, inl, inr, arith}
 use Rattle.std.specs.List.{slice_get}
 use Rattle.std.proofs.lemmas.Bool.{cases_lt, cases_order}
 use Rattle.std.proofs.lemmas.Option.{slice_get_within}
@@ -11,9 +11,9 @@ use Rattle.class_keys.proofs.OfTwo.{least_of_same, least_of_either}
 use Rattle.class_rows.specs.declared.row.TypeRow.{TypeRow}
 use Rattle.class_rows.specs.declared.row.MemberRow.{MemberRow}
 use Rattle.class_rows.specs.Names.{IsReference}
-use Rattle.class_rows.specs.Members.{HasMember, MayShareName, known_as}
+use Rattle.class_rows.specs.Members.{MayShareName, known_as}
 use Rattle.class_members.specs.declared.nested.NameIn.{NameIn}
-use Rattle.class_members.specs.Firsts.{IsAlsoAt, AreFirsts}
+use Rattle.class_members.specs.Firsts.{AreFirsts}
 use Rattle.class_members.specs.Groups.{GoesWith, IsClashOf, IsFirstClash, AreFirstNamed, IsOdd}
 use Rattle.class_members.specs.Names.{IsNameIn, AreNamesIn}
 

@@ -1,5 +1,5 @@
 -- Marks of five roots.
-use Rattle.std.proofs.Common.{◌≡◌, ◌⊎◌, ℕ, ◌<◌, ◌≤◌, Bool, true, false, Option, Some, None, List, length, replicate, refl, sym, ◌∙◌, ap, subst, inl, inr, arith}
+use Rattle.std.proofs.Common.{◌≡◌, ◌⊎◌, ℕ, ◌<◌, Bool, true, false, Some, None, List, length, replicate, refl, sym, ◌∙◌, subst, inl, inr, arith}
 use Rattle.std.specs.Prelude.{codes}
 use Rattle.std.specs.Borrow.{Bor}
 use Rattle.std.specs.List.{slice_get}
@@ -9,7 +9,7 @@ use Rattle.class_rows.specs.Names.{NamesAreUnique}
 use Rattle.class_rows.specs.Core.{IsSystem}
 use Rattle.class_bases.specs.System.{at_name, HasSystem}
 use Rattle.class_bases.proofs.Systems.{one_system}
-use Rattle.class_members.specs.Fieldless.{Marks, IsBelowRoot, AreFieldless}
+use Rattle.class_members.specs.Fieldless.{Marks, AreFieldless}
 use Rattle.class_members.proofs.Write.{none_up}
 
 pub marks_of_system : (types : List TypeRow) (entries : List (Bor (List ℕ) × ℕ)) (name : List ℕ) (t : ℕ) (old new : List Bool) → NamesAreUnique types → HasSystem types entries → at_name entries name ≡ Some t → Marks types (λ s. s ≡ t) old new → Marks types (IsSystem types name) old new

@@ -1,5 +1,5 @@
 -- Members that can't be told from one another, by their signs.
-use Rattle.std.proofs.Common.{◌≡◌, ◌≢◌, ◌⊎◌, ℕ, ◌<◌, Bool, true, false, nat_eq, Option, Some, None, List, length, refl, sym, ◌∙◌, ap, subst, inl, inr, arith}
+use Rattle.std.proofs.Common.{◌≡◌, ◌≢◌, ℕ, Bool, true, false, nat_eq, Option, Some, List, length, sym, ◌∙◌, ap, subst, inl, inr, arith}
 use Rattle.std.specs.List.{slice_get}
 use Rattle.std.proofs.lemmas.Bool.{eqb-true}
 use Rattle.std.proofs.lemmas.Option.{slice_get_within}
@@ -11,13 +11,13 @@ use Rattle.class_keys.proofs.OfTwo.{least_of_same}
 use Rattle.class_rows.specs.declared.row.TypeRow.{TypeRow}
 use Rattle.class_rows.specs.declared.row.MemberRow.{MemberRow}
 use Rattle.class_rows.specs.Names.{IsReference}
-use Rattle.class_rows.specs.Members.{Agree, known_as, sort_of}
+use Rattle.class_rows.specs.Members.{Agree}
 use Rattle.class_members.specs.declared.sign.Signature.{Signature}
 use Rattle.class_members.specs.declared.sign.Overload.{Overload}
 use Rattle.class_members.specs.declared.sign.Sign.{Sign}
 use Rattle.class_members.specs.declared.sign.Sign.TheVariants.{Nameless, Own, Reference}
 use Rattle.class_members.specs.Signs.{IsSignature, IsOverload, IsSign, AreSigns}
-use Rattle.class_members.specs.Twins.{told_types, AreOneOverload, AreTwins, HasTwin}
+use Rattle.class_members.specs.Twins.{AreOneOverload, HasTwin}
 
 pub record AreOneSignature (a b : Signature) : Type 0 where
   pub owner : a.owner ≡ b.owner

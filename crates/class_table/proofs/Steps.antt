@@ -1,5 +1,5 @@
 -- A fault of one of two steps, where memory may be wanting.
-use Rattle.std.proofs.Common.{◌≡◌, Result, Ok, Err, List, [], ◌∷◌, refl, subst}
+use Rattle.std.proofs.Common.{◌≡◌, Ok, List, [], ◌∷◌, refl, subst}
 use Rattle.dc_base.specs.declared.failure.Or.{Or}
 use Rattle.dc_base.specs.declared.failure.Or.TheVariants.{NoMemory, Fault}
 use Rattle.dc_causes.specs.Step.{Step, Then, stop, go}

@@ -1,4 +1,4 @@
-use Rattle.std.proofs.Common.{◌≡◌, length, replicate, false, rules, arith}
+use Rattle.std.proofs.Common.{◌≡◌, length, replicate, false, rules}
 use Rattle.class_members.proofs.Roots.{all_marked}
 use Rattle.class_members.proofs.fieldless.fieldless_types.Goals as goal
 

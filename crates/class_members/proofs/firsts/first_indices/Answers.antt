@@ -1,7 +1,5 @@
-use Rattle.std.proofs.Common.{◌≡◌, ◌+◌, ◌<◌, ◌∙◌, length, Some, rules, refl, sym, subst, arith}
-use Rattle.std.specs.List.{slice_get}
 use Rattle.class_keys.proofs.Items.{read_item}
-use Rattle.class_members.proofs.Noted.{AreNoted, noted_more}
+use Rattle.class_members.proofs.Noted.{noted_more}
 use Rattle.class_members.proofs.firsts.first_indices.Goals as goal
 
 pub loop-index-preserved : goal.loop-index-preserved

@@ -1,8 +1,8 @@
-use Rattle.std.proofs.Common.{◌≡◌, refl, sym, ◌∙◌, subst, List, ℕ, rules}
+use Rattle.std.proofs.Common.{sym, ◌∙◌, subst, List, ℕ}
 use Rattle.class_members.specs.declared.nested.NameIn.{NameIn}
-use Rattle.class_members.specs.Nested.{HasInner, IsListed}
+use Rattle.class_members.specs.Nested.{HasInner}
 use Rattle.class_members.proofs.Equal.{name_tells}
-use Rattle.class_members.proofs.Inner.{Tells, found_listed, listed_found}
+use Rattle.class_members.proofs.Inner.{found_listed, listed_found}
 use Rattle.class_members.proofs.nested.is_named_as_nested.Goals as goal
 
 pub returns-clause-yes : goal.returns-clause-yes

@@ -1,6 +1,5 @@
-use Rattle.std.proofs.Common.{◌≡◌, ◌∙◌, List, Some, refl, sym, ap}
+use Rattle.std.proofs.Common.{◌∙◌, refl}
 use Rattle.class_keys.proofs.Items.{read_item}
-use Rattle.class_rows.specs.declared.row.TypeRow.{TypeRow}
 use Rattle.class_members.specs.declared.nested.NameIn.{NameIn}
 use Rattle.class_members.proofs.Equal.{name_tells}
 use Rattle.class_members.proofs.Inner.{with_nested, without_nested, all_nested}

@@ -1,8 +1,8 @@
-use Rattle.std.proofs.Common.{◌≡◌, Some, false, get_or, refl, sym, ◌∙◌, ap, arith}
+use Rattle.std.proofs.Common.{◌≡◌, Some, get_or, refl, arith}
 use Rattle.std.specs.List.{slice_get}
 use Rattle.std.proofs.lemmas.Bool.{false≢true}
 use Rattle.std.proofs.lemmas.Option.{slice_get-get_or}
-use Rattle.class_members.proofs.Odds.{no_clash_yet, clash_more, no_clash_more, all_clashes}
+use Rattle.class_members.proofs.Odds.{clash_more, no_clash_more, all_clashes}
 use Rattle.class_members.proofs.odd.least_of_firsts.Goals.{then-is_odd, else-is_odd}
 use Rattle.class_members.proofs.odd.least_of_firsts.Goals as goal
 

@@ -1,4 +1,3 @@
-use Rattle.std.proofs.Common.{ℕ, ◌<◌}
 use Rattle.class_keys.specs.Least.{IsLeastOf}
 use Rattle.class_members.proofs.Odds.{IsClashBefore}
 use Rattle.class_members.proofs.odd.least_of_firsts.Given as goal

@@ -3,7 +3,7 @@ use Rattle.std.proofs.lemmas.Result.{IfOk-weaker}
 use Rattle.class_members.specs.declared.sign.Sign.{Sign}
 use Rattle.class_members.specs.Signs.{AreSigns}
 use Rattle.class_members.proofs.Equal.{signature_tells, overload_tells}
-use Rattle.class_members.proofs.SignTold.{Tells, least_with_twin}
+use Rattle.class_members.proofs.SignTold.{least_with_twin}
 use Rattle.class_members.proofs.sign.least_twin.Goals as goal
 
 pub returns : goal.returns
