@@ -10,7 +10,7 @@ use Rattle.class_rows.specs.Members.{IsOf}
 use Rattle.class_spread.specs.declared.spread.Spread.{Spread}
 use Rattle.class_implemented.specs.declared.own.Known.{Known}
 use Rattle.class_implemented.specs.Known.{IsKnown}
-use Rattle.class_implemented.specs.Open.{IsOpen, IsOpenIn, IsOpenAmong, IsOpenFrom}
+use Rattle.class_implemented.specs.Open.{IsOpen, IsOpenIn, IsOpenAmong, IsOpenFrom, IsPassed}
 use Rattle.class_implemented.proofs.Least.{IsSoFar, IsFrom, so_far_begins, so_far_more, so_far_ends, from_next, from_end}
 use Rattle.class_implemented.proofs.Interfaces.{has_index, index_has, own_named, named_next, link_named, is_told}
 
@@ -67,7 +67,7 @@ pub record IsOnLinks (known : Known) (c d at : ℕ) (least : Option ℕ) : Type 
 pub links_begin : (known : Known) (c d : ℕ) → d < length known.types.now → IsOnLinks known c d d None
 links_begin known c d lt = record { within = lt; to_ = λ i n. n; so_far = so_far_begins (IsOpenFrom known c d) (IsOpenFrom known c d) (λ m w. w) }
 
-named_within : (known : Known) → IsKnown known → (t i : ℕ) → IsNamed known.types.now t i → i < length known.types.now
+pub named_within : (known : Known) → IsKnown known → (t i : ℕ) → IsNamed known.types.now t i → i < length known.types.now
 named_within known is t i named = let fit = (is.bases t).interfaces i named in slice_get_within known.types.now i fit.row fit.stands
 
 -- what is open from here is open in an interface of the type's own, or from the type that it goes on with
@@ -106,6 +106,10 @@ links_end known c d at s least o is on stands top first =
           | inr up ↦ let both : None ≡ Some up.0 = sym top ∙ up.1 in absurd cc
         ]))
       (λ m r. r)
+
+-- nothing is open from a type that was gone through
+pub links_passed : (known : Known) (c d at : ℕ) (least : Option ℕ) → IsOnLinks known c d at least → IsPassed known c at → IsLeastOf (IsOpenFrom known c d) least
+links_passed known c d at least on passed = so_far_ends (IsOpenFrom known c d) (IsOpenFrom known c at) least on.so_far (λ m r. passed m (inr r))
 
 pub links_off : (known : Known) (c d at : ℕ) (least : Option ℕ) → IsKnown known → IsOnLinks known c d at least → ((s : Spread) → slice_get known.spreads.now at ≡ Some (Some s) → ⊥) → ⊥
 links_off known c d at least is on none =

@@ -95,7 +95,7 @@ above_next known c d m open_ = elim (reached (IsBase known.types.now) d open_.0 
   | inr s ↦ inr (s.0, s.1, (open_.0, s.2, open_.2))
 ]
 
-from_missing : (known : Known) (c d m : ℕ) → HasType known.types.now c (λ row. IsClass row.kind) → InBaseChain known.types.now c d → IsOpenFrom known c d m → IsMissing known c m
+pub from_missing : (known : Known) (c d m : ℕ) → HasType known.types.now c (λ row. IsClass row.kind) → InBaseChain known.types.now c d → IsOpenFrom known c d m → IsMissing known c m
 from_missing known c d m class up open_ = open_missing known c c m class (here c) (d, up, open_)
 
 pub chain_begins : (known : Known) (c : ℕ) (o : Option ℕ) → HasType known.types.now c (λ row. IsClass row.kind) → IsLeastOf (IsOpenFrom known c c) o → IsOnChain known c c o

@@ -1,0 +1,7 @@
+use Rattle.std.proofs.Common.{◌≡◌, ◌⊎◌, ℕ, Some}
+use Rattle.std.specs.List.{slice_get}
+use Rattle.class_implemented.specs.Open.{IsMarkedWith}
+use Rattle.class_implemented.proofs.passed.with_all.Given as goal
+
+abbrev pub invariant-loop-i : goal.invariant-loop-i
+invariant-loop-i l = IsMarkedWith l.initial.passed.items l.passed.items l.interfaces l.c.0
