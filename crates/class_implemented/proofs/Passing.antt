@@ -1,5 +1,5 @@
 -- Types that were gone through for a class, and for what stands on it.
-use Rattle.std.proofs.Common.{◌≡◌, ◌⊎◌, ℕ, ◌<◌, Option, Some, List, length, inl, inr, sym, subst}
+use Rattle.std.proofs.Common.{◌≡◌, ℕ, ◌<◌, Option, Some, List, length, inl, inr, sym, subst}
 use Rattle.std.specs.List.{slice_get}
 use Rattle.class_chains.specs.Ends.{further}
 use Rattle.class_rows.specs.declared.row.TypeRow.{TypeRow}
@@ -45,7 +45,7 @@ passing_begins known c passed lt are = record { within = lt; to_ = λ i n. n; ar
 pub passing_marked : (known : Known) (c at : ℕ) (before after : List (Option ℕ)) (s : Spread) → IsKnown known → ((m : ℕ) → IsOpenFrom known c c m → ⊥) → IsPassing known c at before → slice_get known.spreads.now at ≡ Some (Some s) → IsMarkedWith before after s.own c → ArePassed known after
 passing_marked known c at before after s is none on stands marked =
     marked_passed known before after s.own c on.are marked (λ k i here_.
-      passed_of known c i none (on.to_ i (own_named known.types.now known.spreads.now at i s is.spreads on.within stands (index_has s.own i k here_))))
+    passed_of known c i none (on.to_ i (own_named known.types.now known.spreads.now at i s is.spreads on.within stands (index_has s.own i k here_))))
 
 pub passing_on : (known : Known) (c at b : ℕ) (before after : List (Option ℕ)) (s : Spread) → IsKnown known → ((m : ℕ) → IsOpenFrom known c c m → ⊥) → IsPassing known c at before → slice_get known.spreads.now at ≡ Some (Some s) → s.onward ≡ Some b → IsMarkedWith before after s.own c → IsPassing known c b after
 passing_on known c at b before after s is none on stands link marked = record {

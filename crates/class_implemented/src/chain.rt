@@ -86,12 +86,7 @@ fn open_anew(known: &Known, passed: &[Option<u32>], c: TypeId, i: TypeId) -> Opt
 }
 
 // The least of some interfaces.
-fn open_among(
-    known: &Known,
-    passed: &[Option<u32>],
-    c: TypeId,
-    interfaces: &[u32],
-) -> Option<usize>
+fn open_among(known: &Known, passed: &[Option<u32>], c: TypeId, interfaces: &[u32]) -> Option<usize>
     requires known { IsKnown known.now }
     requires passed { ArePassed known.now passed.now }
     ensures { IsLeastOf (IsOpenAmong known.now c.0 interfaces.now) result }
@@ -104,12 +99,7 @@ fn open_among(
 }
 
 /// The least method of an interface that `d` names in turn which has no implementer for `c`.
-pub fn open_from(
-    known: &Known,
-    passed: &[Option<u32>],
-    c: TypeId,
-    d: TypeId,
-) -> Option<usize>
+pub fn open_from(known: &Known, passed: &[Option<u32>], c: TypeId, d: TypeId) -> Option<usize>
     requires known { IsKnown known.now }
     requires passed { ArePassed known.now passed.now }
     requires within { d.0 < length known.now.types.now }

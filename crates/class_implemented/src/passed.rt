@@ -53,12 +53,7 @@ pub fn passed_by(known: &Known, passed: Vec<Option<u32>>, c: TypeId) -> Vec<Opti
 }
 
 // The type that the interfaces go on with, unless it was gone through for the base.
-fn next_of(
-    known: &Known,
-    passed: &[Option<u32>],
-    c: TypeId,
-    onward: Option<u32>,
-) -> Option<u32>
+fn next_of(known: &Known, passed: &[Option<u32>], c: TypeId, onward: Option<u32>) -> Option<u32>
     requires { ArePassed known.now passed.now }
     ensures { IfSome result (λ b. onward ≡ Some b) }
 {

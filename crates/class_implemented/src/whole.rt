@@ -71,10 +71,7 @@ fn all_are_implemented(alloc: Global, known: &Known) -> Result<(), Or<TableFault
     let passed = marks.passed.as_slice();
     for c in 0..known.types.len() {
         if let Some(m) = missing(known, clean, passed, TypeId(c as u32)) {
-            return Err(Or::Fault(TableFault::Unimplemented(
-                TypeId(c as u32),
-                MemberId(m as u32),
-            )));
+            return Err(Or::Fault(TableFault::Unimplemented(TypeId(c as u32), MemberId(m as u32))));
         }
     }
     Ok(())

@@ -1,7 +1,7 @@
 use Rattle.std.proofs.Common.{ℕ, Option, List, sym, subst}
 use Rattle.class_spread.proofs.Table.{link_lower}
 use Rattle.class_implemented.specs.Open.{ArePassed, IsMarkedWith}
-use Rattle.class_implemented.proofs.Passing.{passing_begins, passing_marked, passing_on}
+use Rattle.class_implemented.proofs.Passing.{passing_marked, passing_on}
 use Rattle.class_implemented.proofs.passed.passed_by.Goals as goal
 
 pub next_of-next-requires : goal.next_of-next-requires

@@ -1,5 +1,3 @@
-use Rattle.std.proofs.Common.{◌≡◌, ◌⊎◌, ℕ, Some}
-use Rattle.std.specs.List.{slice_get}
 use Rattle.class_implemented.specs.Open.{IsMarkedWith}
 use Rattle.class_implemented.proofs.passed.with_all.Given as goal
 

@@ -1,4 +1,4 @@
-use Rattle.std.proofs.Common.{◌≡◌, ◌⊎◌, ℕ, Some, inl, inr, sym}
+use Rattle.std.proofs.Common.{◌≡◌, ℕ, Some, inl, inr}
 use Rattle.class_implemented.proofs.Marks.{set_cases}
 use Rattle.class_implemented.proofs.passed.with_one.Goals as goal
 

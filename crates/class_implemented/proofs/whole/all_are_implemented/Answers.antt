@@ -1,4 +1,4 @@
-use Rattle.std.proofs.Common.{◌≡◌, ℕ, Bool, Option, List, inl, inr, refl, sym, subst, arith}
+use Rattle.std.proofs.Common.{ℕ, Bool, Option, List, inl, inr, refl, sym, subst, arith}
 use Rattle.std.proofs.lemmas.Bool.{cases_lt}
 use Rattle.std.proofs.lemmas.Option.{slice_get_within}
 use Rattle.class_implemented.specs.Open.{AreClean, ArePassed, IsMissing}
