@@ -1,0 +1,124 @@
+// The table.
+
+ghost use Rattle.std.specs.Prelude.{◌≡◌, ◌<◌, ℕ, length, Some, slice_get, IsTrue, IfOk, IfErr};
+ghost use Rattle.dc_causes.specs.Answer.{OnFault};
+ghost use Rattle.class_rows.specs.Table.{IsClassTable, MakeTable};
+ghost use Rattle.class_rows.specs.Lookups.{AreAssignable, IsAccessible};
+ghost use Rattle.class_table.specs.Buildable.{IsBuildable};
+
+use crate::parts::kept_of;
+use class_alike::Named;
+use class_assign::{Supers, assignable};
+use class_parts::accessible;
+use class_rows::{MemberRow, TableFault, TypeRow};
+use dc_base::{MemberId, Or, Ty, TypeId};
+use std::alloc::Global;
+use std::marker::Model;
+
+/// Rows that make a class table, and what was computed of them once.
+#[derive(Drop)]
+pub struct ClassTable {
+    types: Vec<TypeRow>,
+    members: Vec<MemberRow>,
+    explicit: Vec<(MemberId, MemberId)>,
+    supers: Supers,
+    named: Named,
+}
+
+impl Model for ClassTable {
+    ghost use Rattle.class_table.specs.Rows.{Rows};
+    ghost use Rattle.class_table.specs.Kept.{IsKept};
+
+    ghost Value = { Rows };
+
+    ghost view = { λ t. record { types = t.types.items; members = t.members.items; explicit = t.explicit.items } };
+
+    ghost invariant = { λ t. IsKept t.types.items t.members.items t.explicit.items t.supers t.named };
+}
+
+impl ClassTable {
+    /// All types, by their numbers.
+    pub fn types(&self) -> &[TypeRow]
+        ensures { result.now ≡ self.now.types }
+    {
+        self.types.as_slice()
+    }
+
+    /// All members, by their numbers.
+    pub fn members(&self) -> &[MemberRow]
+        ensures { result.now ≡ self.now.members }
+    {
+        self.members.as_slice()
+    }
+
+    /// The explicit implementations, each with its interface's member.
+    pub fn explicit(&self) -> &[(MemberId, MemberId)]
+        ensures rows { result.now ≡ self.now.explicit }
+        ensures table { IsClassTable self.now.types self.now.members self.now.explicit }
+    {
+        self.explicit.as_slice()
+    }
+
+    /// The type of this number.
+    pub fn type_row(&self, t: TypeId) -> &TypeRow
+        requires { t.0 < length self.now.types }
+        ensures { slice_get self.now.types t.0 ≡ Some result.now }
+    {
+        &self.types[t.0 as usize]
+    }
+
+    /// The member of this number.
+    pub fn member_row(&self, m: MemberId) -> &MemberRow
+        requires { m.0 < length self.now.members }
+        ensures { slice_get self.now.members m.0 ≡ Some result.now }
+    {
+        &self.members[m.0 as usize]
+    }
+
+    /// Whether a reference to each of these types may stand where one to `to` is wanted.
+    pub fn assignable(&self, set: &[Ty], to: Ty) -> bool
+        ensures yes { IsTrue result → AreAssignable self.now.types set.now to }
+        ensures no { AreAssignable self.now.types set.now to → IsTrue result }
+    {
+        assignable(self.types.as_slice(), &self.supers, set, to)
+    }
+
+    /// Whether a member may be named from the type `from`; what is reached by an instance goes `through` its type.
+    pub fn accessible(&self, from: TypeId, m: MemberId, through: Option<TypeId>) -> bool
+        requires { m.0 < length self.now.members }
+        ensures yes { IsTrue result → IsAccessible self.now.types self.now.members from.0 m.0 through }
+        ensures no { IsAccessible self.now.types self.now.members from.0 m.0 through → IsTrue result }
+    {
+        let types = self.types.as_slice();
+        let members = self.members.as_slice();
+        accessible(types, members, &self.supers.orders, from, m, through)
+    }
+}
+
+/// Builds the table of some rows, where they make one; else the fault is that of the first part that fails, at the least
+/// number at which it does.
+pub fn build(
+    alloc: Global,
+    types: Vec<TypeRow>,
+    members: Vec<MemberRow>,
+    explicit: Vec<(MemberId, MemberId)>,
+) -> Result<ClassTable, Or<TableFault>>
+    requires { IsBuildable types.items members.items explicit.items }
+    ensures rows { IfOk result (λ table. (table.types ≡ types.items) × (table.members ≡ members.items) × (table.explicit ≡ explicit.items)) }
+    ensures table { IfOk result (λ table. IsClassTable table.types table.members table.explicit) }
+    ensures fault { IfErr result (OnFault (MakeTable types.items members.items explicit.items)) }
+{
+    let kept = kept_of(
+        alloc,
+        types.as_slice(),
+        members.as_slice(),
+        explicit.as_slice(),
+    )?;
+    Ok(ClassTable {
+        types,
+        members,
+        explicit,
+        supers: kept.supers,
+        named: kept.named,
+    })
+}
