@@ -31,7 +31,11 @@ fn told_of_rows(alloc: Global, task: &str, rows: Rows) -> Result<String, AllocEr
         return String::from_str(alloc, "not to be built");
     }
     match build(alloc, types, members, explicit) {
-        Ok(table) => format!(in alloc; "{} types, {} members: a table", table.types().len(), table.members().len()),
+        Ok(table) => format!(in alloc;
+            "{} types, {} members: a table",
+            table.types().len(),
+            table.members().len()
+        ),
         Err(Or::Fault(fault)) => format!(in alloc; "{fault}"),
         Err(Or::NoMemory) => String::from_str(alloc, "no memory"),
     }

@@ -121,14 +121,27 @@ pub fn chain(alloc: Global, count: u32) -> Result<Rows, NoMemory> {
     let mut types = core_types(alloc)?;
     let mut members = Vec::new(alloc);
     for k in 0..count {
-        let before = if k == 0 { None } else { Some(TypeId(behind_core(k - 1))) };
+        let before = if k == 0 {
+            None
+        } else {
+            Some(TypeId(behind_core(k - 1)))
+        };
         let name = numbered(alloc, "I", k, 0)?;
         types.push(type_row(alloc, name, "", Kind::Interface, None, before)?)?;
-        members.push(method_row(alloc, behind_core(k), numbered(alloc, "M", k, 0)?, Virt::Abstract))?;
+        members.push(method_row(
+            alloc,
+            behind_core(k),
+            numbered(alloc, "M", k, 0)?,
+            Virt::Abstract,
+        ))?;
     }
     for k in 0..count {
         let own = behind_core(k).saturating_add(count);
-        let base = if k == 0 { TypeId(0) } else { TypeId(own.saturating_sub(1)) };
+        let base = if k == 0 {
+            TypeId(0)
+        } else {
+            TypeId(own.saturating_sub(1))
+        };
         let name = numbered(alloc, "C", k, 0)?;
         let interface = Some(TypeId(behind_core(k)));
         types.push(type_row(alloc, name, "", Kind::Class, Some(base), interface)?)?;
@@ -150,7 +163,11 @@ pub fn plain(alloc: Global, count: u32) -> Result<Rows, NoMemory> {
         for j in 0..MEMBERS {
             let named_after = if place < 2 { first } else { k };
             let name = numbered(alloc, "M", named_after, j)?;
-            let virt = if place == 0 { Virt::Abstract } else { Virt::Virtual };
+            let virt = if place == 0 {
+                Virt::Abstract
+            } else {
+                Virt::Virtual
+            };
             members.push(method_row(alloc, behind_core(k), name, virt))?;
         }
     }
@@ -173,5 +190,12 @@ fn grouped(
     } else {
         TypeId(behind_core(k.saturating_sub(1)))
     };
-    type_row(alloc, name, "", Kind::Class, Some(base), Some(TypeId(interface)))
+    type_row(
+        alloc,
+        name,
+        "",
+        Kind::Class,
+        Some(base),
+        Some(TypeId(interface)),
+    )
 }
