@@ -9,7 +9,9 @@ pub mod Implementers
 pub mod Interfaces
 -- chain::open_one, chain::open_in, chain::open_among, chain::open_from
 pub mod Open
--- whole::with_type
+-- whole::with_clean, passed::with_one
 pub mod Marks
+-- passed::is_passed, passed::passed_by
+pub mod Passing
 -- chain::is_done, whole::missing_in_class
 pub mod Up

@@ -1,20 +1,14 @@
--- Types in which nothing is missing, marked one by one.
-use Rattle.std.proofs.Common.{◌≡◌, ℕ, zero, suc, ◌<◌, Bool, true, false, Some, List, [], ◌∷◌, length, set, eqb, sym, refl, ap, subst, ◌∙◌}
+-- Lists of marks of which one is set.
+use Rattle.std.proofs.Common.{◌≡◌, ◌⊎◌, ℕ, zero, suc, Some, List, [], ◌∷◌, set, inl, inr, refl, ap}
 use Rattle.std.specs.List.{slice_get}
-use Rattle.std.proofs.lemmas.Bool.{eqb-true, eqb-false}
-use Rattle.class_implemented.specs.declared.own.Known.{Known}
-use Rattle.class_implemented.specs.Open.{IsMissing, AreClean}
 
-set_other : {X : Type 0} (xs : List X) (i j : ℕ) (x : X) → (i ≡ j → ⊥) → slice_get (set xs i x) j ≡ slice_get xs j
-set_other [] i j x apart = refl
-set_other (y ∷ ys) zero zero x apart = absurd (apart refl)
-set_other (y ∷ ys) zero (suc j) x apart = refl
-set_other (y ∷ ys) (suc i) zero x apart = refl
-set_other (y ∷ ys) (suc i) (suc j) x apart = set_other ys i j x (λ e. apart (ap suc e))
-
-pub mark_more : (known : Known) (clean : List Bool) (c : ℕ) → AreClean known clean → ((m : ℕ) → IsMissing known c m → ⊥) → AreClean known (set clean c true)
-mark_more known clean c are none = λ t at m miss.
-    elim (eqb c t) as (λ (v : Bool). eqb c t ≡ v → ⊥) [
-      | true ↦ λ e. none m (subst (λ (n : ℕ). IsMissing known n m) (sym (eqb-true c t e)) miss)
-      | false ↦ λ e. are t (sym (set_other clean c t true (eqb-false c t e)) ∙ at) m miss
-    ] refl
+-- what stands there after a change stood there before, or is the new item at its index
+pub set_cases : {X : Type 0} (xs : List X) (i j : ℕ) (x y : X) → slice_get (set xs i x) j ≡ Some y → ((j ≡ i) × (x ≡ y)) ⊎ (slice_get xs j ≡ Some y)
+set_cases [] i j x y at = inr at
+set_cases (z ∷ zs) zero zero x y at = let e : x ≡ y = cc in inl (refl, e)
+set_cases (z ∷ zs) zero (suc j) x y at = inr at
+set_cases (z ∷ zs) (suc i) zero x y at = inr at
+set_cases (z ∷ zs) (suc i) (suc j) x y at = elim (set_cases zs i j x y at) [
+  | inl new_ ↦ inl (ap suc new_.0, new_.1)
+  | inr old ↦ inr old
+]

@@ -1,5 +1,5 @@
 -- Explicit implementations by their types, one by one.
-use Rattle.std.proofs.Common.{◌≡◌, ◌⊎◌, ℕ, Bool, true, false, Option, Some, None, List, [], ◌∷◌, ◌++◌, nat_eq, inl, inr, sym, refl, ap, subst, ◌∙◌, arith}
+use Rattle.std.proofs.Common.{◌≡◌, ◌⊎◌, ℕ, Bool, true, false, Some, None, List, [], ◌∷◌, ◌++◌, nat_eq, inl, inr, sym, refl, ap, subst, ◌∙◌, arith}
 use Rattle.std.specs.Prelude.{◌&&◌, ◌<◌, if◌then◌else◌}
 use Rattle.std.specs.List.{slice_get, list_any, Contains}
 use Rattle.std.proofs.lemmas.Bool.{eqb-true, eq-eqb}
@@ -12,7 +12,6 @@ use Rattle.dc_base.specs.declared.names.TypeId.{TypeId}
 use Rattle.class_keys.proofs.Found.{any_at}
 use Rattle.class_keys.proofs.Items.{one_item}
 use Rattle.class_rows.specs.declared.row.MemberRow.{MemberRow}
-use Rattle.class_rows.specs.Members.{IsOf}
 use Rattle.class_implemented.specs.Pairs.{IsPairOf, HasPair, ArePairs}
 
 abbrev pub pair_eq : ℕ × ℕ → ℕ × ℕ → Bool
@@ -76,10 +75,11 @@ module _ (members : List MemberRow) (seen : List (MemberId × MemberId)) (keys :
       | inl old ↦ kept b m (are.sound b m old)
       | inr e ↦
           let owner : row.owner.0 ≡ b = ap (λ (p : ℕ × ℕ). p.0) e in
-          let of : pair.1.0 ≡ m = ap (λ (p : ℕ × ℕ). p.1) e in
-          (pair.0.0,
-           record { row = row; stands = stands; is = ap (λ (n : ℕ). record { 0 = n }) owner },
-           subst (λ (n : ℕ). Contains (seen ++ (pair ∷ [])) (pair.0, record { 0 = n })) of (Contains-push seen pair))
+          let of : pair.1.0 ≡ m = ap (λ (p : ℕ × ℕ). p.1) e in (
+            pair.0.0,
+            record { row = row; stands = stands; is = ap (λ (n : ℕ). record { 0 = n }) owner },
+            subst (λ (n : ℕ). Contains (seen ++ (pair ∷ [])) (pair.0, record { 0 = n })) of (Contains-push seen pair),
+          )
     ];
     complete = λ b m p. elim (Contains-push_cases seen pair (record { 0 = p.0 }, record { 0 = m }) p.2) [
       | inl there ↦ insert_keeps keys (row.owner.0, pair.1.0) (b, m) (are.complete b m (p.0, p.1, there))

@@ -1,15 +1,14 @@
 -- Walks up the base chain: to a type that has an implementer, and for what is missing.
-use Rattle.std.proofs.Common.{◌≡◌, ◌⊎◌, ℕ, ◌<◌, Bool, true, Option, Some, None, List, length, inl, inr, sym, refl, ap, subst, ◌∙◌}
+use Rattle.std.proofs.Common.{◌≡◌, ◌⊎◌, ℕ, ◌<◌, Bool, true, Option, Some, None, List, length, inl, inr, sym, subst, ◌∙◌}
 use Rattle.std.specs.List.{slice_get}
 use Rattle.std.proofs.lemmas.Option.{slice_get_within}
-use Rattle.dc_base.specs.declared.names.TypeId.{TypeId}
 use Rattle.class_chains.specs.Ends.{Reaches, here, further}
 use Rattle.class_parts.proofs.Climb.{one_base, reached}
 use Rattle.class_keys.specs.Least.{IsLeastOf, lesser_of}
 use Rattle.class_rows.specs.declared.row.TypeRow.{TypeRow}
 use Rattle.class_rows.specs.declared.row.MemberRow.{MemberRow}
 use Rattle.class_rows.specs.Types.{HasType, IsBase, IsClass, InBaseChain}
-use Rattle.class_rows.specs.Implemented.{IsImplementer, IsDue}
+use Rattle.class_rows.specs.Implemented.{IsImplementer}
 use Rattle.class_implemented.specs.declared.own.Known.{Known}
 use Rattle.class_implemented.specs.Known.{IsKnown}
 use Rattle.class_implemented.specs.Open.{HasImplementer, IsDone, IsOpenFrom, IsOpenAbove, IsMissing, AreClean}
@@ -57,11 +56,21 @@ done_implementer known c m d = (d.2.x, record { b = d.0; base = d.1; row = d.2.r
 -- what is missing in a class are the methods of the interfaces above it that have no implementer
 pub missing_open : (known : Known) (c m : ℕ) → IsMissing known c m → IsOpenAbove known c c m
 missing_open known c m miss =
-    let method = miss.due.method in
-    (miss.due.b, miss.due.base, (miss.due.i, miss.due.interface, (
-      record { row = method.row; stands = method.stands; is = method.is.0 },
-      (record { row = method.row; stands = method.stands; is = (method.is.1, method.is.2) },
-      λ done. let i = done_implementer known c m done in miss.none i.0 i.1))))
+    let method = miss.due.method in (
+      miss.due.b,
+      miss.due.base,
+      (
+        miss.due.i,
+        miss.due.interface,
+        (
+          record { row = method.row; stands = method.stands; is = method.is.0 },
+          (
+            record { row = method.row; stands = method.stands; is = (method.is.1, method.is.2) },
+            λ done. let i = done_implementer known c m done in miss.none i.0 i.1,
+          ),
+        ),
+      ),
+    )
 
 pub open_missing : (known : Known) (c d m : ℕ) → HasType known.types.now d (λ row. IsClass row.kind) → InBaseChain known.types.now c d → IsOpenAbove known c d m → IsMissing known d m
 open_missing known c d m class up open_ =
@@ -95,15 +104,15 @@ above_next known c d m open_ = elim (reached (IsBase known.types.now) d open_.0 
   | inr s ↦ inr (s.0, s.1, (open_.0, s.2, open_.2))
 ]
 
-from_missing : (known : Known) (c d m : ℕ) → HasType known.types.now c (λ row. IsClass row.kind) → InBaseChain known.types.now c d → IsOpenFrom known c d m → IsMissing known c m
+pub from_missing : (known : Known) (c d m : ℕ) → HasType known.types.now c (λ row. IsClass row.kind) → InBaseChain known.types.now c d → IsOpenFrom known c d m → IsMissing known c m
 from_missing known c d m class up open_ = open_missing known c c m class (here c) (d, up, open_)
 
 pub chain_begins : (known : Known) (c : ℕ) (o : Option ℕ) → HasType known.types.now c (λ row. IsClass row.kind) → IsLeastOf (IsOpenFrom known c c) o → IsOnChain known c c o
 chain_begins known c o class first = record {
   up = here c;
   so_far = so_far_more (IsMissing known c) (IsOpenFrom known c c) (IsOpenAbove known c c) (λ m. (b : ℕ) × IsBase known.types.now c b × IsOpenAbove known c b m) None o
-    (so_far_begins (IsMissing known c) (IsOpenAbove known c c) (missing_open known c)) first
-    (λ m q. from_missing known c c m class (here c) q) (λ m r. above_next known c c m r);
+      (so_far_begins (IsMissing known c) (IsOpenAbove known c c) (missing_open known c)) first
+      (λ m q. from_missing known c c m class (here c) q) (λ m r. above_next known c c m r);
 }
 
 pub chain_on : (known : Known) (c at b : ℕ) (least o : Option ℕ) → HasType known.types.now c (λ row. IsClass row.kind) → IsOnChain known c at least → IsBase known.types.now at b → IsLeastOf (IsOpenFrom known c b) o → IsOnChain known c b (lesser_of least o)
@@ -112,9 +121,9 @@ chain_on known c at b least o class on base first =
     record {
       up = up;
       so_far = so_far_more (IsMissing known c) (IsOpenFrom known c b) (λ m. (b : ℕ) × IsBase known.types.now at b × IsOpenAbove known c b m) (λ m. (d : ℕ) × IsBase known.types.now b d × IsOpenAbove known c d m) least o
-        on.so_far first
-        (λ m q. from_missing known c b m class up q)
-        (λ m r. above_next known c b m (subst (λ (n : ℕ). IsOpenAbove known c n m) (one_base known.types.now at r.0 b r.1 base) r.2));
+          on.so_far first
+          (λ m q. from_missing known c b m class up q)
+          (λ m r. above_next known c b m (subst (λ (n : ℕ). IsOpenAbove known c n m) (one_base known.types.now at r.0 b r.1 base) r.2));
     }
 
 pub chain_ends : (known : Known) (c at : ℕ) (least : Option ℕ) → IsOnChain known c at least → ((b : ℕ) → IsBase known.types.now at b → ⊥) → IsLeastOf (IsMissing known c) least
@@ -131,7 +140,7 @@ pub chain_clean : (known : Known) (clean : List Bool) (c at b : ℕ) (least : Op
 chain_clean known clean c at b least is are on base mark =
     let up = then_up (IsBase known.types.now) c at b on.up (further at b b base (here b)) in
     so_far_ends _ _ least on.so_far (λ m r.
-      are b mark m (open_missing known c b m (base_class known at b is base) up (subst (λ (n : ℕ). IsOpenAbove known c n m) (one_base known.types.now at r.0 b r.1 base) r.2)))
+    are b mark m (open_missing known c b m (base_class known at b is base) up (subst (λ (n : ℕ). IsOpenAbove known c n m) (one_base known.types.now at r.0 b r.1 base) r.2)))
 
 pub type_within : (types : List TypeRow) (t : ℕ) (Fact : TypeRow → Type 0) → HasType types t Fact → t < length types
 type_within types t Fact h = slice_get_within types t h.row h.stands

@@ -1,5 +1,5 @@
 -- Inner facts: what is computed of the rows once.
-use Rattle.std.specs.Prelude.{◌<◌, ◌^◌, ℕ, length}
+use Rattle.std.specs.Prelude.{◌<◌, ◌^◌, length}
 use Rattle.class_chains.specs.Ends.{IsAboveFirst}
 use Rattle.class_rows.specs.Types.{IsAbove}
 use Rattle.class_rows.specs.Bases.{BasesAreThere}

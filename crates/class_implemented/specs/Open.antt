@@ -1,5 +1,5 @@
 -- Inner facts: which methods have no implementer.
-use Rattle.std.specs.Prelude.{◌≡◌, ◌≢◌, ◌⊎◌, ℕ, List, Some, Bool, true, false, slice_get, Contains}
+use Rattle.std.specs.Prelude.{◌≡◌, ◌≢◌, ◌⊎◌, ℕ, List, Option, Some, Bool, true, false, slice_get, Contains}
 use Rattle.class_rows.specs.declared.row.TypeRow.{TypeRow}
 use Rattle.class_rows.specs.declared.row.MemberRow.{MemberRow}
 use Rattle.class_rows.specs.declared.row.Access.TheVariants.{Public}
@@ -52,6 +52,20 @@ IsOpenFrom known c d m = (i : ℕ) × NamesInterface known.types.now d i × IsOp
 -- d or a base of it names the interface
 abbrev pub IsOpenAbove : Known → ℕ → ℕ → ℕ → Type 0
 IsOpenAbove known c d m = (b : ℕ) × InBaseChain known.types.now d b × IsOpenFrom known c b m
+
+-- nothing is open for c of what t names in turn, nor of t as an interface
+abbrev pub IsPassed : Known → ℕ → ℕ → Type 0
+IsPassed known c t = (m : ℕ) → IsOpenIn known c t m ⊎ IsOpenFrom known c t m → ⊥
+
+-- this is so of each type and the class that is its mark
+abbrev pub ArePassed : Known → List (Option ℕ) → Type 0
+ArePassed known passed = (t c : ℕ) → slice_get passed t ≡ Some (Some c) → IsPassed known c t
+
+-- each mark is an older one, or is c at one of these interfaces
+abbrev pub IsMarkedWith : List (Option ℕ) → List (Option ℕ) → List ℕ → ℕ → Type 0
+IsMarkedWith before after interfaces c =
+    (t x : ℕ) → slice_get after t ≡ Some (Some x)
+    → ((x ≡ c) × ((k : ℕ) × (slice_get interfaces k ≡ Some t))) ⊎ (slice_get before t ≡ Some (Some x))
 
 -- m is unimplemented in c, a class
 abbrev pub IsMissing : Known → ℕ → ℕ → Type 0

@@ -1,5 +1,5 @@
 -- Inner facts: explicit implementations, by the type that has one.
-use Rattle.std.specs.Prelude.{◌≡◌, ℕ, List, Contains}
+use Rattle.std.specs.Prelude.{ℕ, List, Contains}
 use Rattle.dc_base.specs.declared.names.MemberId.{MemberId}
 use Rattle.class_rows.specs.declared.row.MemberRow.{MemberRow}
 use Rattle.class_rows.specs.Members.{IsOf}

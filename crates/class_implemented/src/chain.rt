@@ -3,9 +3,10 @@
 ghost use Rattle.std.specs.Prelude.{◌≡◌, ◌<◌, Some, IsTrue, slice_get, length};
 ghost use Rattle.class_keys.specs.Least.{IsLeastOf};
 ghost use Rattle.class_implemented.specs.Known.{IsKnown};
-ghost use Rattle.class_implemented.specs.Open.{IsMethod, IsDone, IsOpen, IsOpenIn, IsOpenAmong, IsOpenFrom};
+ghost use Rattle.class_implemented.specs.Open.{IsMethod, IsDone, IsOpen, IsOpenIn, IsOpenAmong, IsOpenFrom, ArePassed};
 
 use crate::own::{Known, has_implementer};
+use crate::passed::is_passed;
 use class_keys::lesser;
 use class_parts::base_of;
 use class_rows::{MemberRow, Sort};
@@ -72,28 +73,45 @@ fn open_in(known: &Known, c: TypeId, i: TypeId) -> Option<usize>
     least
 }
 
+fn open_anew(known: &Known, passed: &[Option<u32>], c: TypeId, i: TypeId) -> Option<usize>
+    requires known { IsKnown known.now }
+    requires passed { ArePassed known.now passed.now }
+    ensures { IsLeastOf (IsOpenIn known.now c.0 i.0) result }
+{
+    if is_passed(known, passed, c, i.0) {
+        None
+    } else {
+        open_in(known, c, i)
+    }
+}
+
 // The least of some interfaces.
-fn open_among(known: &Known, c: TypeId, interfaces: &[u32]) -> Option<usize>
-    requires { IsKnown known.now }
+fn open_among(known: &Known, passed: &[Option<u32>], c: TypeId, interfaces: &[u32]) -> Option<usize>
+    requires known { IsKnown known.now }
+    requires passed { ArePassed known.now passed.now }
     ensures { IsLeastOf (IsOpenAmong known.now c.0 interfaces.now) result }
 {
     let mut least = None;
     for i in interfaces {
-        least = lesser(least, open_in(known, c, TypeId(*i)));
+        least = lesser(least, open_anew(known, passed, c, TypeId(*i)));
     }
     least
 }
 
 /// The least method of an interface that `d` names in turn which has no implementer for `c`.
-pub fn open_from(known: &Known, c: TypeId, d: TypeId) -> Option<usize>
+pub fn open_from(known: &Known, passed: &[Option<u32>], c: TypeId, d: TypeId) -> Option<usize>
     requires known { IsKnown known.now }
+    requires passed { ArePassed known.now passed.now }
     requires within { d.0 < length known.now.types.now }
     ensures { IsLeastOf (IsOpenFrom known.now c.0 d.0) result }
 {
     let mut least = None;
     let mut at = d.0;
     while let Some(spread) = spread_at(known.spreads, at) {
-        least = lesser(least, open_among(known, c, spread.own.items()));
+        if is_passed(known, passed, c, at) {
+            return least;
+        }
+        least = lesser(least, open_among(known, passed, c, spread.own.items()));
         let Some(onward) = spread.onward else {
             return least;
         };

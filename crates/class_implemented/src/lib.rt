@@ -10,6 +10,7 @@
 mod chain;
 mod own;
 mod pairs;
+mod passed;
 mod whole;
 
 pub use whole::interfaces_are_implemented;

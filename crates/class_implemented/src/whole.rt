@@ -1,6 +1,6 @@
 // All classes: which is the first with a method that has no implementer.
 
-ghost use Rattle.std.specs.Prelude.{◌≡◌, ◌<◌, ◌^◌, ℕ, Some, true, IsTrue, IfOk, IfErr, length, slice_get};
+ghost use Rattle.std.specs.Prelude.{◌≡◌, ◌<◌, ◌^◌, ◌⊎◌, ℕ, Some, true, IsTrue, IfOk, IfErr, length, slice_get};
 ghost use Rattle.dc_causes.specs.Causes.{Least, Rounds};
 ghost use Rattle.dc_causes.specs.Answer.{OnFault};
 ghost use Rattle.class_keys.specs.Least.{IsLeastOf};
@@ -11,11 +11,12 @@ ghost use Rattle.class_rows.specs.Implemented.{IsUnimplemented, InterfacesAreImp
 ghost use Rattle.class_index.specs.Order.{IsIndex};
 ghost use Rattle.class_parts.specs.Orders.{AreOrders};
 ghost use Rattle.class_implemented.specs.Known.{IsKnown};
-ghost use Rattle.class_implemented.specs.Open.{IsMissing, AreClean};
+ghost use Rattle.class_implemented.specs.Open.{IsMissing, AreClean, ArePassed};
 
 use crate::chain::open_from;
 use crate::own::Known;
 use crate::pairs::pairs_of;
+use crate::passed::passed_by;
 use class_alike::Named;
 use class_keys::lesser;
 use class_parts::{Orders, base_of};
@@ -26,8 +27,9 @@ use std::alloc::Global;
 
 /// Whether each class has an implementer of each method of its interfaces and of those of its bases; else the fault names
 /// the least class that hasn't, and of it the least such method. `explicit` has each explicit implementation with its
-/// interface's member. A class whose base is in order is asked for the interfaces that it names itself alone: each of their
-/// methods takes a search by name in each type of the base chain, up to the first that implements it.
+/// interface's member. A class whose base is in order is asked for the interfaces that it names itself alone, and not for
+/// those for which its base was asked as well: each of their methods takes a search by name in each type of the base chain,
+/// up to the first that implements it.
 pub fn interfaces_are_implemented(
     alloc: Global,
     types: &[TypeRow],
@@ -64,52 +66,89 @@ fn all_are_implemented(alloc: Global, known: &Known) -> Result<(), Or<TableFault
     ensures implemented { IfOk result (λ _. (c m : ℕ) → IsMissing known.now c m → ⊥) }
     ensures unimplemented { IfErr result (OnFault (Rounds (λ c. Least (IsMissing known.now c) (λ m. Unimplemented (record { 0 = c }) (record { 0 = m }))))) }
 {
-    let clean = clean_types(alloc, known)?;
+    let marks = marks_of(alloc, known)?;
+    let clean = marks.clean.as_slice();
+    let passed = marks.passed.as_slice();
     for c in 0..known.types.len() {
-        if let Some(m) = missing(known, clean.as_slice(), TypeId(c as u32)) {
-            return Err(Or::Fault(TableFault::Unimplemented(
-                TypeId(c as u32),
-                MemberId(m as u32),
-            )));
+        if let Some(m) = missing(known, clean, passed, TypeId(c as u32)) {
+            return Err(Or::Fault(TableFault::Unimplemented(TypeId(c as u32), MemberId(m as u32))));
         }
     }
     Ok(())
 }
 
-// Marks types in which no method is missing, each behind its base.
-fn clean_types(alloc: Global, known: &Known) -> Result<Vec<bool>, NoMemory>
-    requires { IsKnown known.now }
-    ensures { IfOk result (λ clean. AreClean known.now clean.items) }
-{
-    let mut clean = vec![in alloc; false; known.types.len()]?;
-    for c in known.order {
-        clean = with_type(known, clean, TypeId(*c));
-    }
-    Ok(clean)
+/// For each type whether nothing is known to be missing in it, and the last class for which it was gone through.
+#[derive(Drop)]
+pub struct Marks {
+    pub clean: Vec<bool>,
+    pub passed: Vec<Option<u32>>,
 }
 
-fn with_type(known: &Known, mut clean: Vec<bool>, c: TypeId) -> Vec<bool>
-    requires known { IsKnown known.now }
-    requires clean { AreClean known.now clean.items }
-    ensures { AreClean known.now result.items }
+// Marks types in which no method is missing, each behind its base.
+fn marks_of(alloc: Global, known: &Known) -> Result<Marks, NoMemory>
+    requires { IsKnown known.now }
+    ensures clean { IfOk result (λ marks. AreClean known.now marks.clean.items) }
+    ensures passed { IfOk result (λ marks. ArePassed known.now marks.passed.items) }
 {
-    let is_clean = is_settled(known, clean.as_slice(), c);
-    if is_clean && (c.0 as usize) < clean.len() {
+    let clean = vec![in alloc; false; known.types.len()]?;
+    let passed = vec![in alloc; None; known.types.len()]?;
+    let mut marks = Marks { clean, passed };
+    for c in known.order {
+        marks = with_type(known, marks, TypeId(*c));
+    }
+    Ok(marks)
+}
+
+fn with_type(known: &Known, marks: Marks, c: TypeId) -> Marks
+    requires known { IsKnown known.now }
+    requires clean { AreClean known.now marks.clean.items }
+    requires passed { ArePassed known.now marks.passed.items }
+    ensures clean { AreClean known.now result.clean.items }
+    ensures passed { ArePassed known.now result.passed.items }
+{
+    let Marks { clean, passed } = marks;
+    if !is_settled(known, clean.as_slice(), passed.as_slice(), c) {
+        return Marks { clean, passed };
+    }
+    Marks {
+        clean: with_clean(clean, c),
+        passed: with_class(known, passed, c),
+    }
+}
+
+fn with_clean(mut clean: Vec<bool>, c: TypeId) -> Vec<bool>
+    ensures { (t : ℕ) → slice_get result.items t ≡ Some true → (t ≡ c.0) ⊎ (slice_get clean.items t ≡ Some true) }
+{
+    if (c.0 as usize) < clean.len() {
         clean[c.0 as usize] = true;
     }
     clean
 }
 
+fn with_class(known: &Known, passed: Vec<Option<u32>>, c: TypeId) -> Vec<Option<u32>>
+    requires known { IsKnown known.now }
+    requires passed { ArePassed known.now passed.items }
+    requires none { (m : ℕ) → IsMissing known.now c.0 m → ⊥ }
+    ensures { ArePassed known.now result.items }
+{
+    if is_class(known.types, c) {
+        passed_by(known, passed, c)
+    } else {
+        passed
+    }
+}
+
 // Whether the base is marked, and nothing is missing.
-fn is_settled(known: &Known, clean: &[bool], c: TypeId) -> bool
+fn is_settled(known: &Known, clean: &[bool], passed: &[Option<u32>], c: TypeId) -> bool
     requires known { IsKnown known.now }
     requires clean { AreClean known.now clean.now }
+    requires passed { ArePassed known.now passed.now }
     ensures { IsTrue result → (m : ℕ) → IsMissing known.now c.0 m → ⊥ }
 {
     if !has_clean_base(known, clean, c) {
         return false;
     }
-    match missing(known, clean, c) {
+    match missing(known, clean, passed, c) {
         Some(_) => false,
         None => true,
     }
@@ -132,13 +171,14 @@ fn is_clean(clean: &[bool], t: TypeId) -> bool
 }
 
 // The least method that is missing in a type; none is in a type that isn't a class.
-fn missing(known: &Known, clean: &[bool], c: TypeId) -> Option<usize>
+fn missing(known: &Known, clean: &[bool], passed: &[Option<u32>], c: TypeId) -> Option<usize>
     requires known { IsKnown known.now }
     requires clean { AreClean known.now clean.now }
+    requires passed { ArePassed known.now passed.now }
     ensures { IsLeastOf (IsMissing known.now c.0) result }
 {
     if is_class(known.types, c) && !is_clean(clean, c) {
-        missing_in_class(known, clean, c)
+        missing_in_class(known, clean, passed, c)
     } else {
         None
     }
@@ -155,19 +195,25 @@ fn is_class(types: &[TypeRow], t: TypeId) -> bool
 }
 
 // Goes up the base chain as far as there may be something missing.
-fn missing_in_class(known: &Known, clean: &[bool], c: TypeId) -> Option<usize>
+fn missing_in_class(
+    known: &Known,
+    clean: &[bool],
+    passed: &[Option<u32>],
+    c: TypeId,
+) -> Option<usize>
     requires known { IsKnown known.now }
     requires clean { AreClean known.now clean.now }
+    requires passed { ArePassed known.now passed.now }
     requires class { HasType known.now.types.now c.0 (λ row. IsClass row.kind) }
     ensures { IsLeastOf (IsMissing known.now c.0) result }
 {
-    let mut least = open_from(known, c, c);
+    let mut least = open_from(known, passed, c, c);
     let mut at = c;
     while let Some(base) = base_of(known.types, at) {
         if is_clean(clean, base) {
             return least;
         }
-        least = lesser(least, open_from(known, c, base));
+        least = lesser(least, open_from(known, passed, c, base));
         at = base;
     }
     least

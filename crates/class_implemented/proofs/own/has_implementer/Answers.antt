@@ -1,4 +1,4 @@
-use Rattle.std.proofs.Common.{◌≡◌, inl, inr, refl}
+use Rattle.std.proofs.Common.{inl, inr, refl}
 use Rattle.std.proofs.lemmas.Bool.{false≢true}
 use Rattle.class_implemented.proofs.Implementers.{by_pair, by_like, implementer_cases}
 use Rattle.class_implemented.proofs.own.has_implementer.Goals as goal

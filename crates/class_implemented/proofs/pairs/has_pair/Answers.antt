@@ -1,4 +1,4 @@
-use Rattle.std.proofs.Common.{◌≡◌, ◌∙◌, sym}
+use Rattle.std.proofs.Common.{◌∙◌, sym}
 use Rattle.class_implemented.proofs.Pairing.{found_pair, pair_found}
 use Rattle.class_implemented.proofs.pairs.has_pair.Goals as goal
 

@@ -10,7 +10,7 @@ returns-in_ok-insert-in-Some c = λ seen are.
     let read = c.in-Some.ensures.lookup.3 in
     let stands : slice_get c.args.members.now c.args.pair.0.0 ≡ Some c.in-Some.row.now = slice_get-get_or c.args.members.now c.args.pair.0.0 c.in-Some.row.now read.0 ∙ ap Some (sym (read.1 c.in-Some.row.now)) in
     subst (λ (keys : List (ℕ × ℕ)). ArePairs c.args.members.now (seen ++ (c.args.pair ∷ [])) keys) (sym c.in_ok-insert-in-Some.ensures.keys)
-      (pairs_more c.args.members.now seen c.args.pairs.keys c.args.pair c.in-Some.row.now stands are)
+    (pairs_more c.args.members.now seen c.args.pairs.keys c.args.pair c.in-Some.row.now stands are)
 
 pub returns-in-None : goal.returns-in-None
 returns-in-None c = λ seen are.

@@ -21,7 +21,7 @@ loop-base-smaller c = lower_base c.args.known.now.types.now c.args.known.now.ord
 pub loop-base-preserved : goal.loop-base-preserved
 loop-base-preserved c =
     rw c.lesser-least.ensures
-      (chain_on c.args.known.now c.args.c.0 c.loop-base.at.0 c.in-Some.base.0 c.loop-base.least c.open_from.result c.requires.class c.loop-base.invariant c.in-Some.ensures.some c.open_from.ensures)
+    (chain_on c.args.known.now c.args.c.0 c.loop-base.at.0 c.in-Some.base.0 c.loop-base.least c.open_from.result c.requires.class c.loop-base.invariant c.in-Some.ensures.some c.open_from.ensures)
 
 pub returns : goal.returns
 returns c = chain_ends c.args.known.now c.args.c.0 c.loop-base.at.0 c.loop-base.least c.loop-base.invariant c.in_default.ensures.none
