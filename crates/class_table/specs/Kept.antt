@@ -1,5 +1,5 @@
 -- Inner facts: what a table keeps beside its rows.
-use Rattle.std.specs.Prelude.{List}
+use Rattle.std.specs.Prelude.{ℕ, List}
 use Rattle.dc_base.specs.declared.names.MemberId.{MemberId}
 use Rattle.class_rows.specs.declared.row.TypeRow.{TypeRow}
 use Rattle.class_rows.specs.declared.row.MemberRow.{MemberRow}
@@ -10,7 +10,7 @@ use Rattle.class_alike.specs.declared.named.Named.{Named}
 use Rattle.class_alike.specs.Named.{IsNamed}
 use Rattle.class_assign.specs.declared.supers.Supers.{Supers}
 use Rattle.class_assign.specs.Supers.{AreSupers}
-use Rattle.class_table.specs.Buildable.{IsBuildable}
+use Rattle.class_slots.specs.Slots.{AreSlots}
 use Rattle.class_table.specs.declared.known.Known.{Known}
 
 -- the orders of the types and the members by their names
@@ -19,7 +19,8 @@ pub record IsKnown (types : List TypeRow) (members : List MemberRow) (explicit :
   pub named : IsNamed types members explicit known.named
 
 -- the rows make a class table, and the rest is theirs
-pub record IsKept (types : List TypeRow) (members : List MemberRow) (explicit : List (MemberId × MemberId)) (supers : Supers) (named : Named) : Type 0 where
+pub record IsKept (types : List TypeRow) (members : List MemberRow) (explicit : List (MemberId × MemberId)) (supers : Supers) (named : Named) (slots : List ℕ) : Type 0 where
   pub table : IsClassTable types members explicit
   pub are_supers : AreSupers types supers
   pub is_named : IsNamed types members explicit named
+  pub are_slots : AreSlots types members explicit slots

@@ -3,6 +3,7 @@
 use class_alike::Named;
 use class_assign::Supers;
 use class_parts::Orders;
+use dc_base::Seq;
 
 /// The orders of the types, and the members by their names.
 #[derive(Debug, Drop)]
@@ -11,9 +12,11 @@ pub struct Known {
     pub named: Named,
 }
 
-/// What a table keeps beside its rows: what stands above each type, and the members by their names.
+/// What a table keeps beside its rows: what stands above each type, the members by their names, and
+/// the slot of each member.
 #[derive(Debug, Drop)]
 pub struct Kept {
     pub supers: Supers,
     pub named: Named,
+    pub slots: Seq<u32>,
 }

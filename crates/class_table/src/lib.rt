@@ -11,6 +11,8 @@ mod buildable;
 mod known;
 mod parts;
 mod table;
+#[cfg(test)]
+mod tests;
 
 pub use buildable::is_buildable;
 pub use table::{ClassTable, build};

@@ -26,6 +26,7 @@ use class_members::members_are_unique;
 use class_names::unique_names;
 use class_parts::{Orders, orders_of};
 use class_rows::{MemberRow, TableFault, TypeRow};
+use class_slots::slots_of;
 use dc_base::{MemberId, NoMemory, Or};
 use std::alloc::Global;
 
@@ -144,13 +145,15 @@ pub fn kept_of(
     explicit: &[(MemberId, MemberId)],
 ) -> Result<Kept, Or<TableFault>>
     requires { IsBuildable types.now members.now explicit.now }
-    ensures kept { IfOk result (λ kept. IsKept types.now members.now explicit.now kept.supers kept.named) }
+    ensures kept { IfOk result (λ kept. IsKept types.now members.now explicit.now kept.supers kept.named kept.slots) }
     ensures fault { IfErr result (OnFault (MakeTable types.now members.now explicit.now)) }
 {
-    let known = known_of(alloc, types, members, explicit)?;
-    let supers = supers_of(alloc, types, known.orders)?;
+    let Known { orders, named } = known_of(alloc, types, members, explicit)?;
+    let slots = slots_of(alloc, types, members, explicit, &orders, &named)?;
+    let supers = supers_of(alloc, types, orders)?;
     Ok(Kept {
         supers,
-        named: known.named,
+        named,
+        slots,
     })
 }

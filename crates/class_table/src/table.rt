@@ -3,15 +3,18 @@
 ghost use Rattle.std.specs.Prelude.{◌≡◌, ◌<◌, ℕ, length, Some, slice_get, IsTrue, IfOk, IfErr};
 ghost use Rattle.dc_causes.specs.Answer.{OnFault};
 ghost use Rattle.class_rows.specs.Table.{IsClassTable, MakeTable};
-ghost use Rattle.class_rows.specs.Lookups.{AreAssignable, IsAccessible};
+ghost use Rattle.class_rows.specs.Lookups.{AreAssignable, IsAccessible, IsLookup, IsSlot};
+ghost use Rattle.class_lookup.specs.Left.{CanFind, found_left};
 ghost use Rattle.class_table.specs.Buildable.{IsBuildable};
 
 use crate::parts::kept_of;
 use class_alike::Named;
 use class_assign::{Supers, assignable};
+use class_lookup::{Found, lookup};
 use class_parts::accessible;
 use class_rows::{MemberRow, TableFault, TypeRow};
-use dc_base::{MemberId, Or, Ty, TypeId};
+use class_slots::slot;
+use dc_base::{MemberId, Or, Seq, Text, Ty, TypeId};
 use std::alloc::Global;
 use std::marker::Model;
 
@@ -23,6 +26,7 @@ pub struct ClassTable {
     explicit: Vec<(MemberId, MemberId)>,
     supers: Supers,
     named: Named,
+    slots: Seq<u32>,
 }
 
 impl Model for ClassTable {
@@ -33,7 +37,7 @@ impl Model for ClassTable {
 
     ghost view = { λ t. record { types = t.types.items; members = t.members.items; explicit = t.explicit.items } };
 
-    ghost invariant = { λ t. IsKept t.types.items t.members.items t.explicit.items t.supers t.named };
+    ghost invariant = { λ t. IsKept t.types.items t.members.items t.explicit.items t.supers t.named t.slots };
 }
 
 impl ClassTable {
@@ -83,6 +87,28 @@ impl ClassTable {
         assignable(self.types.as_slice(), &self.supers, set, to)
     }
 
+    /// The members of a name that a look-up in a type finds, in order: first the type's own. Overrides and members without
+    /// a name are left out.
+    pub fn lookup(&self, t: TypeId, name: &Text) -> Found<'_>
+        ensures can { CanFind result }
+        ensures found { IsLookup self.now.types self.now.members self.now.explicit t.0 name.now (found_left result) }
+    {
+        let types = self.types.as_slice();
+        let members = self.members.as_slice();
+        let explicit = self.explicit.as_slice();
+        lookup(types, members, explicit, &self.supers, &self.named, t, name)
+    }
+
+    /// The member that introduced the slot of a member; the member itself where it takes none over.
+    pub fn slot(&self, m: MemberId) -> MemberId
+        requires { m.0 < length self.now.members }
+        ensures { IsSlot self.now.types self.now.members self.now.explicit m.0 result.0 }
+    {
+        let types = self.types.as_slice();
+        let members = self.members.as_slice();
+        slot(types, members, self.explicit.as_slice(), &self.slots, m)
+    }
+
     /// Whether a member may be named from the type `from`; what is reached by an instance goes `through` its type.
     pub fn accessible(&self, from: TypeId, m: MemberId, through: Option<TypeId>) -> bool
         requires { m.0 < length self.now.members }
@@ -120,5 +146,6 @@ pub fn build(
         explicit,
         supers: kept.supers,
         named: kept.named,
+        slots: kept.slots,
     })
 }
