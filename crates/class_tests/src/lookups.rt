@@ -78,7 +78,7 @@ fn an_override_has_the_slot_of_what_it_overrides(rt: HostRuntime) -> Result<(), 
     };
     for (m, want) in [(7, 7), (8, 7), (9, 7), (6, 6), (3, 3)] {
         if m < table.members() {
-            assert_eq!(rt; table.slot(MemberId(m as u32)).0, want);
+            assert_eq!(rt; table.slot(MemberId(m)).0, want);
         }
     }
     Ok(())
