@@ -33,8 +33,8 @@ fn told_of_rows(alloc: Global, task: &str, rows: Rows) -> Result<String, AllocEr
     match build(alloc, types, members, explicit) {
         Ok(table) => format!(in alloc;
             "{} types, {} members: a table",
-            table.types().len(),
-            table.members().len()
+            table.types(),
+            table.members()
         ),
         Err(Or::Fault(fault)) => format!(in alloc; "{fault}"),
         Err(Or::NoMemory) => String::from_str(alloc, "no memory"),

@@ -1,5 +1,5 @@
 -- Inner facts: what a table keeps beside its rows.
-use Rattle.std.specs.Prelude.{ℕ, List}
+use Rattle.std.specs.Prelude.{ℕ, ◌<◌, ◌^◌, List, length}
 use Rattle.dc_base.specs.declared.names.MemberId.{MemberId}
 use Rattle.class_rows.specs.declared.row.TypeRow.{TypeRow}
 use Rattle.class_rows.specs.declared.row.MemberRow.{MemberRow}
@@ -17,9 +17,11 @@ pub record IsKnown (types : List TypeRow) (members : List MemberRow) (explicit :
   pub orders : AreOrders types known.orders
   pub named : IsNamed types members explicit known.named
 
--- the rows make a class table, and the rest is theirs
+-- the rows make a class table and can be counted, and the rest is theirs
 pub record IsKept (types : List TypeRow) (members : List MemberRow) (explicit : List (MemberId × MemberId)) (supers : Supers) (named : Named) (slots : List ℕ) : Type 0 where
   pub table : IsClassTable types members explicit
+  pub few_types : length types < 2 ^ 32
+  pub few_members : length members < 2 ^ 32
   pub are_supers : AreSupers types supers
   pub is_named : IsNamed types members explicit named
   pub are_slots : AreSlots types members explicit slots

@@ -41,27 +41,24 @@ impl Model for ClassTable {
 }
 
 impl ClassTable {
-    /// All types, by their numbers.
-    pub fn types(&self) -> &[TypeRow]
-        ensures { result.now ≡ self.now.types }
+    /// How many types there are.
+    pub fn types(&self) -> u32
+        ensures { result ≡ length self.now.types }
     {
-        self.types.as_slice()
+        self.types.len() as u32
     }
 
-    /// All members, by their numbers.
-    pub fn members(&self) -> &[MemberRow]
-        ensures { result.now ≡ self.now.members }
+    /// How many members there are.
+    pub fn members(&self) -> u32
+        ensures { result ≡ length self.now.members }
     {
-        self.members.as_slice()
+        self.members.len() as u32
     }
 
-    /// The explicit implementations, each with its interface's member.
-    pub fn explicit(&self) -> &[(MemberId, MemberId)]
-        ensures rows { result.now ≡ self.now.explicit }
-        ensures table { IsClassTable self.now.types self.now.members self.now.explicit }
-    {
-        self.explicit.as_slice()
-    }
+    /// That the rows make a class table: a law, and no step.
+    pub fn is_class_table(&self)
+        ensures { IsClassTable self.now.types self.now.members self.now.explicit }
+    {}
 
     /// The type of this number.
     pub fn type_row(&self, t: TypeId) -> &TypeRow
