@@ -1,0 +1,4 @@
+-- What a reader must believe: worked rows.
+pub mod Samples
+pub mod Expressions
+pub mod Statements
