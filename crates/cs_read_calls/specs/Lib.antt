@@ -1,2 +1,0 @@
--- What a reader must believe: what a level is.
-pub mod Asked
