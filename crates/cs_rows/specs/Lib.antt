@@ -2,3 +2,4 @@
 pub mod Samples
 pub mod Expressions
 pub mod Statements
+pub mod Words

@@ -9,5 +9,6 @@
 mod rows;
 
 pub use rows::{
-    blocks_are_as_meant, casts_are_as_meant, depths_are_as_meant, operators_are_as_meant,
+    blocks_are_as_meant, casts_are_as_meant, depths_are_as_meant, kinds_are_as_meant,
+    operators_are_as_meant,
 };
