@@ -58,7 +58,9 @@ impl ClassTable {
     /// That the rows make a class table: a law, and no step.
     pub fn is_class_table(&self)
         ensures { IsClassTable self.now.types self.now.members self.now.explicit }
-    {}
+    {
+        let _ = &self.types;
+    }
 
     /// The type of this number.
     pub fn type_row(&self, t: TypeId) -> &TypeRow
