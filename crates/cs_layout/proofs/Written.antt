@@ -26,7 +26,7 @@ blanks_bytes (c ∷ g) h =
     ap (λ x. x ++ encodes g) (encode_ascii c (blank_low c each.0)) ∙ ap (λ x. c ∷ x) (blanks_bytes g each.1)
 
 pub bytes_from : (g : List ℕ) (ps : List Piece) → has_blank_gaps ps ≡ true
-  → encodes g ++ flat_map piece_bytes ps ≡ encodes (written (tokens_behind g ps) (last_behind g ps))
+    → encodes g ++ flat_map piece_bytes ps ≡ encodes (written (tokens_behind g ps) (last_behind g ps))
 bytes_from g [] h = append-nil (encodes g)
 bytes_from g (gap b ∷ ps) h =
     let each = both (list_all is_blank b) (has_blank_gaps ps) h in

@@ -21,7 +21,7 @@ use Rattle.cs_tree.specs.declared.forms.Action.TheOpen.{Action-F, Form-F, Syntax
 use Rattle.cs_tree.specs.declared.forms.Action.TheFolds.{fold-Action, fold-Form, fold-Syntax, fold-Arg, fold-Block, fold-Catching, fold-Section}
 use Rattle.cs_layout.specs.declared.fixed.Fixed.TheVariants as part
 use Rattle.cs_layout.specs.Pieces.{Piece, gap}
-use Rattle.cs_layout.specs.Words.{fixed, unary_pieces, binary_pieces, assign_pieces, conditional, binary_level, relational, unary, cast, new_array, primary, name, path, type_without_ranks, ranks, type_pieces, literal_pieces, way_pieces, listed, param_pieces}
+use Rattle.cs_layout.specs.Words.{fixed, unary_pieces, binary_pieces, assign_pieces, conditional_level, binary_level, relational_level, unary_level, cast_level, new_array_level, primary_level, name, path, type_without_ranks, ranks, type_pieces, literal_pieces, way_pieces, listed, param_pieces}
 
 -- what is printed behind a margin
 abbrev pub Laid : Type 0
@@ -71,59 +71,59 @@ is_minus_op op.Minus = true
 is_minus_op _ = false
 
 abbrev pub signed_operand : UnaryOp → Shown → Laid
-signed_operand o a margin = enclosed (nat_lt a.level unary || is_minus_op o && a.is_minus) (a.pieces margin)
+signed_operand o a margin = enclosed (nat_lt a.level unary_level || is_minus_op o && a.is_minus) (a.pieces margin)
 
 abbrev pub cast_operand : Shown → Laid
-cast_operand a margin = enclosed (nat_lt a.level cast || a.is_lambda) (a.pieces margin)
+cast_operand a margin = enclosed (nat_lt a.level cast_level || a.is_lambda) (a.pieces margin)
 
 abbrev pub arg_layer : Arg-F Laid Shown Laid Laid Laid Laid Laid → Laid
 arg_layer a margin = way_pieces a.way ++ a.form.pieces margin
 
 abbrev pub form_layer : Form-F Laid Shown Laid Laid Laid Laid Laid → Shown
-form_layer (Form-F.Literal _ literal) = shown primary (λ margin. literal_pieces literal)
-form_layer (Form-F.Name _ text) = shown primary (λ margin. name text)
-form_layer (Form-F.This _) = shown primary (λ margin. fixed part.This)
-form_layer (Form-F.Member _ object n) = shown primary (λ margin. at_least new_array object margin ++ (fixed part.Dot ++ name n.text))
+form_layer (Form-F.Literal _ literal) = shown primary_level (λ margin. literal_pieces literal)
+form_layer (Form-F.Name _ text) = shown primary_level (λ margin. name text)
+form_layer (Form-F.This _) = shown primary_level (λ margin. fixed part.This)
+form_layer (Form-F.Member _ object n) = shown primary_level (λ margin. at_least new_array_level object margin ++ (fixed part.Dot ++ name n.text))
 form_layer (Form-F.Call _ object n args) =
-    shown primary (λ margin. at_least new_array object margin ++ (fixed part.Dot ++ (name n.text ++ arguments args margin)))
-form_layer (Form-F.BaseMember _ n) = shown primary (λ margin. fixed part.Base ++ name n.text)
-form_layer (Form-F.BaseCall _ n args) = shown primary (λ margin. fixed part.Base ++ (name n.text ++ arguments args margin))
-form_layer (Form-F.Global _ names) = shown primary (λ margin. fixed part.Global ++ path names)
-form_layer (Form-F.GlobalCall _ names args) = shown primary (λ margin. fixed part.Global ++ (path names ++ arguments args margin))
+    shown primary_level (λ margin. at_least new_array_level object margin ++ (fixed part.Dot ++ (name n.text ++ arguments args margin)))
+form_layer (Form-F.BaseMember _ n) = shown primary_level (λ margin. fixed part.Base ++ name n.text)
+form_layer (Form-F.BaseCall _ n args) = shown primary_level (λ margin. fixed part.Base ++ (name n.text ++ arguments args margin))
+form_layer (Form-F.Global _ names) = shown primary_level (λ margin. fixed part.Global ++ path names)
+form_layer (Form-F.GlobalCall _ names args) = shown primary_level (λ margin. fixed part.Global ++ (path names ++ arguments args margin))
 form_layer (Form-F.Index _ array index) =
-    shown primary (λ margin. at_least primary array margin ++ (fixed part.OpenIndex ++ (index.pieces margin ++ fixed part.CloseIndex)))
-form_layer (Form-F.New _ class args) = shown primary (λ margin. fixed part.New ++ (type_without_ranks class ++ arguments args margin))
+    shown primary_level (λ margin. at_least primary_level array margin ++ (fixed part.OpenIndex ++ (index.pieces margin ++ fixed part.CloseIndex)))
+form_layer (Form-F.New _ class args) = shown primary_level (λ margin. fixed part.New ++ (type_without_ranks class ++ arguments args margin))
 form_layer (Form-F.NewArray _ element length) =
-    shown new_array
+    shown new_array_level
     (λ margin.
     fixed part.New ++ (type_without_ranks element.name ++ (fixed part.OpenIndex ++ (length.pieces margin ++ (fixed part.CloseIndex ++ ranks element.ranks)))))
-form_layer (Form-F.Checked _ inner) = shown primary (λ margin. fixed part.Checked ++ (inner.pieces margin ++ fixed part.Close))
-form_layer (Form-F.Unchecked _ inner) = shown primary (λ margin. fixed part.Unchecked ++ (inner.pieces margin ++ fixed part.Close))
-form_layer (Form-F.Default _ ty) = shown primary (λ margin. fixed part.DefaultOf ++ (type_pieces ty ++ fixed part.Close))
+form_layer (Form-F.Checked _ inner) = shown primary_level (λ margin. fixed part.Checked ++ (inner.pieces margin ++ fixed part.Close))
+form_layer (Form-F.Unchecked _ inner) = shown primary_level (λ margin. fixed part.Unchecked ++ (inner.pieces margin ++ fixed part.Close))
+form_layer (Form-F.Default _ ty) = shown primary_level (λ margin. fixed part.DefaultOf ++ (type_pieces ty ++ fixed part.Close))
 form_layer (Form-F.Lambda _ params block) =
     record {
-      level = primary;
+      level = primary_level;
       is_minus = false;
       is_lambda = true;
       pieces = λ margin.
           fixed part.Open ++ (listed (map param_pieces params) ++ (fixed part.Arrow ++ (block (deeper margin) ++ (indent margin ++ fixed part.CloseBrace))));
     }
 form_layer (Form-F.Unary _ o operand) =
-    record { level = unary; is_minus = is_minus_op o; is_lambda = false; pieces = λ margin. unary_pieces o ++ signed_operand o operand margin }
-form_layer (Form-F.Cast _ ty operand) = shown cast (λ margin. fixed part.Open ++ (type_pieces ty ++ (fixed part.Close ++ cast_operand operand margin)))
+    record { level = unary_level; is_minus = is_minus_op o; is_lambda = false; pieces = λ margin. unary_pieces o ++ signed_operand o operand margin }
+form_layer (Form-F.Cast _ ty operand) = shown cast_level (λ margin. fixed part.Open ++ (type_pieces ty ++ (fixed part.Close ++ cast_operand operand margin)))
 form_layer (Form-F.Binary _ o left right) =
     shown (binary_level o) (λ margin. at_least (binary_level o) left margin ++ (binary_pieces o ++ at_least (binary_level o + 1) right margin))
-form_layer (Form-F.Is _ operand ty) = shown relational (λ margin. at_least relational operand margin ++ (fixed part.Is ++ type_pieces ty))
-form_layer (Form-F.As _ operand ty) = shown relational (λ margin. at_least relational operand margin ++ (fixed part.As ++ type_pieces ty))
+form_layer (Form-F.Is _ operand ty) = shown relational_level (λ margin. at_least relational_level operand margin ++ (fixed part.Is ++ type_pieces ty))
+form_layer (Form-F.As _ operand ty) = shown relational_level (λ margin. at_least relational_level operand margin ++ (fixed part.As ++ type_pieces ty))
 form_layer (Form-F.Conditional _ test on_true on_false) =
-    shown conditional
-    (λ margin. at_least (conditional + 1) test margin ++ (fixed part.Question ++ (on_true.pieces margin ++ (fixed part.Otherwise ++ on_false.pieces margin))))
+    shown conditional_level
+    (λ margin. at_least (conditional_level + 1) test margin ++ (fixed part.Question ++ (on_true.pieces margin ++ (fixed part.Otherwise ++ on_false.pieces margin))))
 
 -- statements, each with its margin and its newline
 
 abbrev pub action_layer : Action-F Laid Shown Laid Laid Laid Laid Laid → Laid
-action_layer (Action-F.Assign place value) margin = at_least new_array place margin ++ (fixed part.Equals ++ value.pieces margin)
-action_layer (Action-F.Compound o place value) margin = at_least new_array place margin ++ (assign_pieces o ++ value.pieces margin)
+action_layer (Action-F.Assign place value) margin = at_least new_array_level place margin ++ (fixed part.Equals ++ value.pieces margin)
+action_layer (Action-F.Compound o place value) margin = at_least new_array_level place margin ++ (assign_pieces o ++ value.pieces margin)
 action_layer (Action-F.Invoke call) margin = call.pieces margin
 
 abbrev pub block_layer : Block-F Laid Shown Laid Laid Laid Laid Laid → Laid

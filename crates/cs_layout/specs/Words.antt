@@ -127,8 +127,8 @@ assign_pieces op = blank ∷ sign (assign_sign op) ∷ blank ∷ []
 
 -- How tightly expressions bind (12.4.2): an expression stands in parentheses where one of a higher number is wanted. The new array
 -- is apart, since its element is taken of it in parentheses alone (12.8.12).
-abbrev pub conditional : ℕ
-conditional = 0
+abbrev pub conditional_level : ℕ
+conditional_level = 0
 
 abbrev pub binary_level : BinaryOp → ℕ
 binary_level binary.Or = 1
@@ -150,28 +150,30 @@ binary_level binary.Mul = 10
 binary_level binary.Div = 10
 binary_level binary.Rem = 10
 
-abbrev pub relational : ℕ
-relational = 7
+abbrev pub relational_level : ℕ
+relational_level = 7
 
-abbrev pub unary : ℕ
-unary = 11
+abbrev pub unary_level : ℕ
+unary_level = 11
 
-abbrev pub cast : ℕ
-cast = 12
+abbrev pub cast_level : ℕ
+cast_level = 12
 
-abbrev pub new_array : ℕ
-new_array = 13
+abbrev pub new_array_level : ℕ
+new_array_level = 13
 
-abbrev pub primary : ℕ
-primary = 14
+abbrev pub primary_level : ℕ
+primary_level = 14
 
 -- names and paths (6.4.3, 7.8)
 unfoldable pub name : List ℕ → List Piece
 name text = word text ∷ []
 
+abbrev pub dotted : List ℕ → List Piece
+dotted text = fixed part.Dot ++ name text
+
 abbrev pub more_names : List (List ℕ) → List Piece
-more_names [] = []
-more_names (text ∷ texts) = fixed part.Dot ++ (name text ++ more_names texts)
+more_names texts = flat_map dotted texts
 
 abbrev pub path : List (List ℕ) → List Piece
 path [] = []

@@ -69,6 +69,7 @@ pub enum Fixed {
     Finally,
 }
 
+#[tactic(auto, unfolding(crate::specs::Words::fixed), using(crate::proofs::Following::global_bytes))]
 fn text(part: Fixed) -> &'static str
     ensures { result.now ≡ flat_map piece_bytes (fixed part) }
 {
@@ -132,6 +133,7 @@ fn text(part: Fixed) -> &'static str
     }
 }
 
+#[tactic(auto, unfolding(crate::specs::Pieces::followed))]
 pub(crate) fn write_fixed(out: &mut String, part: Fixed) -> Result<(), NoMemory>
     ensures { OnOk result (string_bytes out.new ≡ followed (string_bytes out.old) (fixed part)) }
 {

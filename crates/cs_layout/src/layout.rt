@@ -93,6 +93,7 @@ fn deeper(alloc: Global, margin: &str) -> Result<String, NoMemory>
     Ok(text)
 }
 
+#[tactic(auto, using(crate::proofs::Following::followed_append, crate::proofs::Following::followed_nothing))]
 fn write_indent(out: &mut String, margin: &str) -> Result<(), NoMemory>
     ensures { OnOk result (string_bytes out.new ≡ followed (string_bytes out.old) (indent margin.now)) }
 {
@@ -101,6 +102,7 @@ fn write_indent(out: &mut String, margin: &str) -> Result<(), NoMemory>
 }
 
 /// A line with a text that is the same in all trees.
+#[tactic(auto, using(crate::proofs::Following::followed_append, crate::proofs::Following::followed_nothing))]
 fn write_line(out: &mut String, part: Fixed, margin: &str) -> Result<(), NoMemory>
     ensures { OnOk result (string_bytes out.new ≡ followed (string_bytes out.old) (line margin.now (fixed part))) }
 {
@@ -110,6 +112,7 @@ fn write_line(out: &mut String, part: Fixed, margin: &str) -> Result<(), NoMemor
 }
 
 /// The beginning of a line.
+#[tactic(auto, using(crate::proofs::Following::followed_append, crate::proofs::Following::followed_nothing))]
 fn write_head(out: &mut String, part: Fixed, margin: &str) -> Result<(), NoMemory>
     ensures { OnOk result (string_bytes out.new ≡ followed (string_bytes out.old) (indent margin.now ++ fixed part)) }
 {
@@ -118,6 +121,7 @@ fn write_head(out: &mut String, part: Fixed, margin: &str) -> Result<(), NoMemor
 }
 
 /// The end of a line.
+#[tactic(auto, using(crate::proofs::Following::followed_append, crate::proofs::Following::followed_nothing))]
 fn write_end(out: &mut String, part: Fixed) -> Result<(), NoMemory>
     ensures { OnOk result (string_bytes out.new ≡ followed (string_bytes out.old) (fixed part ++ fixed Newline)) }
 {
@@ -125,6 +129,7 @@ fn write_end(out: &mut String, part: Fixed) -> Result<(), NoMemory>
     write_fixed(out, Fixed::Newline)
 }
 
+#[tactic(auto, using(crate::proofs::Following::followed_append, crate::proofs::Following::followed_nothing))]
 fn write_typed(out: &mut String, ty: &TypeForm, name: &Name) -> Result<(), NoMemory>
     ensures { OnOk result (string_bytes out.new ≡ followed (string_bytes out.old) (typed ty.now name.now)) }
 {
@@ -133,6 +138,7 @@ fn write_typed(out: &mut String, ty: &TypeForm, name: &Name) -> Result<(), NoMem
     write_name(out, &name.text)
 }
 
+#[tactic(auto, using(crate::proofs::Following::followed_append, crate::proofs::Following::followed_nothing))]
 fn write_maybe_name(out: &mut String, name: &Option<Name>) -> Result<(), NoMemory>
     ensures { OnOk result (string_bytes out.new ≡ followed (string_bytes out.old) (maybe_name name.now)) }
 {
@@ -145,6 +151,7 @@ fn write_maybe_name(out: &mut String, name: &Option<Name>) -> Result<(), NoMemor
     }
 }
 
+#[tactic(auto, using(crate::proofs::Following::followed_append, crate::proofs::Following::followed_nothing))]
 fn write_label(out: &mut String, label: &SwitchLabel, margin: &str) -> Result<(), NoMemory>
     ensures { OnOk result (string_bytes out.new ≡ followed (string_bytes out.old) (label_pieces margin.now label.now)) }
 {
@@ -158,6 +165,7 @@ fn write_label(out: &mut String, label: &SwitchLabel, margin: &str) -> Result<()
     }
 }
 
+#[tactic(auto, using(crate::proofs::Following::followed_append, crate::proofs::Following::followed_nothing))]
 fn write_labels(out: &mut String, labels: &[SwitchLabel], margin: &str) -> Result<(), NoMemory>
     ensures { OnOk result (string_bytes out.new ≡ followed (string_bytes out.old) (flat_map (label_pieces margin.now) labels.now)) }
 {
@@ -169,6 +177,7 @@ fn write_labels(out: &mut String, labels: &[SwitchLabel], margin: &str) -> Resul
 
 /// An expression, in parentheses or not.
 #[cycle(layout)]
+#[tactic(auto, using(crate::proofs::Following::followed_append, crate::proofs::Following::followed_nothing))]
 fn write_part(
     alloc: Global,
     out: &mut String,
@@ -187,6 +196,7 @@ fn write_part(
 }
 
 #[cycle(layout)]
+#[tactic(auto, using(crate::proofs::Following::followed_append, crate::proofs::Following::followed_nothing))]
 fn write_arg(alloc: Global, out: &mut String, arg: &Arg, margin: &str) -> Result<(), NoMemory>
     ensures { OnOk result (string_bytes out.new ≡ followed (string_bytes out.old) (arg_laid arg.now margin.now)) }
 {
@@ -195,6 +205,7 @@ fn write_arg(alloc: Global, out: &mut String, arg: &Arg, margin: &str) -> Result
 }
 
 #[cycle(layout)]
+#[tactic(auto, using(crate::proofs::Following::followed_append, crate::proofs::Following::followed_nothing))]
 fn write_args(alloc: Global, out: &mut String, args: &[Arg], margin: &str) -> Result<(), NoMemory>
     ensures { OnOk result (string_bytes out.new ≡ followed (string_bytes out.old) (listed (map (λ a. a margin.now) (map arg_laid args.now)))) }
 {
@@ -206,6 +217,7 @@ fn write_args(alloc: Global, out: &mut String, args: &[Arg], margin: &str) -> Re
 }
 
 #[cycle(layout)]
+#[tactic(auto, using(crate::proofs::Following::followed_append, crate::proofs::Following::followed_nothing))]
 fn write_arguments(
     alloc: Global,
     out: &mut String,
@@ -221,6 +233,7 @@ fn write_arguments(
 
 /// An expression, whose statement stands behind this margin.
 #[cycle(layout)]
+#[tactic(auto, using(crate::proofs::Following::followed_append, crate::proofs::Following::followed_nothing))]
 pub fn write_form(
     alloc: Global,
     out: &mut String,
@@ -401,6 +414,7 @@ pub fn write_form(
 
 /// The operand of an operator. A minus sign may not stand directly behind another one.
 #[cycle(layout)]
+#[tactic(auto, using(crate::proofs::Following::followed_append, crate::proofs::Following::followed_nothing))]
 fn write_operand(
     alloc: Global,
     out: &mut String,
@@ -416,6 +430,7 @@ fn write_operand(
 
 /// The operand of a cast. A lambda stands in parentheses there.
 #[cycle(layout)]
+#[tactic(auto, using(crate::proofs::Following::followed_append, crate::proofs::Following::followed_nothing))]
 fn write_cast_operand(
     alloc: Global,
     out: &mut String,
@@ -430,6 +445,7 @@ fn write_cast_operand(
 
 /// What stands in a block, one level deeper than this margin.
 #[cycle(layout)]
+#[tactic(auto, using(crate::proofs::Following::followed_append, crate::proofs::Following::followed_nothing))]
 fn write_deeper(
     alloc: Global,
     out: &mut String,
@@ -443,6 +459,7 @@ fn write_deeper(
 }
 
 #[cycle(layout)]
+#[tactic(auto, using(crate::proofs::Following::followed_append, crate::proofs::Following::followed_nothing))]
 fn write_statements(
     alloc: Global,
     out: &mut String,
@@ -459,6 +476,7 @@ fn write_statements(
 
 /// A block on lines of its own, behind this margin.
 #[cycle(layout)]
+#[tactic(auto, using(crate::proofs::Following::followed_append, crate::proofs::Following::followed_nothing))]
 pub fn write_block(
     alloc: Global,
     out: &mut String,
@@ -474,6 +492,7 @@ pub fn write_block(
 
 /// What may be the step of a `for`.
 #[cycle(layout)]
+#[tactic(auto, using(crate::proofs::Following::followed_append, crate::proofs::Following::followed_nothing))]
 pub fn write_action(
     alloc: Global,
     out: &mut String,
@@ -498,6 +517,7 @@ pub fn write_action(
 }
 
 #[cycle(layout)]
+#[tactic(auto, using(crate::proofs::Following::followed_append, crate::proofs::Following::followed_nothing))]
 fn write_section(
     alloc: Global,
     out: &mut String,
@@ -511,6 +531,7 @@ fn write_section(
 }
 
 #[cycle(layout)]
+#[tactic(auto, using(crate::proofs::Following::followed_append, crate::proofs::Following::followed_nothing))]
 fn write_sections(
     alloc: Global,
     out: &mut String,
@@ -527,6 +548,7 @@ fn write_sections(
 }
 
 #[cycle(layout)]
+#[tactic(auto, using(crate::proofs::Following::followed_append, crate::proofs::Following::followed_nothing))]
 fn write_catch(
     alloc: Global,
     out: &mut String,
@@ -543,6 +565,7 @@ fn write_catch(
 }
 
 #[cycle(layout)]
+#[tactic(auto, using(crate::proofs::Following::followed_append, crate::proofs::Following::followed_nothing))]
 fn write_catches(
     alloc: Global,
     out: &mut String,
@@ -559,6 +582,7 @@ fn write_catches(
 
 /// A line that begins with a keyword and ends with an expression in parentheses.
 #[cycle(layout)]
+#[tactic(auto, using(crate::proofs::Following::followed_append, crate::proofs::Following::followed_nothing))]
 fn write_tested(
     alloc: Global,
     out: &mut String,
@@ -575,6 +599,7 @@ fn write_tested(
 
 /// A line with a keyword and an expression.
 #[cycle(layout)]
+#[tactic(auto, using(crate::proofs::Following::followed_append, crate::proofs::Following::followed_nothing))]
 fn write_value(
     alloc: Global,
     out: &mut String,
@@ -591,6 +616,7 @@ fn write_value(
 
 /// A statement, with its margin and its newline.
 #[cycle(layout)]
+#[tactic(auto, using(crate::proofs::Following::followed_append, crate::proofs::Following::followed_nothing))]
 pub fn write_syntax(
     alloc: Global,
     out: &mut String,

@@ -9,8 +9,12 @@
 #![tactic(auto)]
 
 mod fixed;
+mod layout;
 mod reading;
+#[cfg(test)]
+mod tests;
 mod words;
 
+pub use layout::{write_action, write_block, write_form, write_syntax};
 pub use reading::laid_is_written;
 pub use words::{write_literal, write_params, write_path, write_type};

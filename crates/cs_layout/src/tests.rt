@@ -85,12 +85,21 @@ fn parentheses_stand_where_they_must(rt: HostRuntime) -> Result<(), Fail> {
         alloc,
         BinaryOp::Sub,
         var(alloc, "a")?,
-        binary(alloc, BinaryOp::Add, var(alloc, "b")?, minus(alloc, var(alloc, "c")?)?)?,
+        binary(
+            alloc,
+            BinaryOp::Add,
+            var(alloc, "b")?,
+            minus(alloc, var(alloc, "c")?)?,
+        )?,
     )?;
     assert_eq!(rt; laid(alloc, &to_the_right)?.as_str(), "a - (b + -c)");
     let twice = minus(alloc, minus(alloc, var(alloc, "x")?)?)?;
     assert_eq!(rt; laid(alloc, &twice)?.as_str(), "-(-x)");
-    let below = member(alloc, cast(alloc, int(), minus(alloc, var(alloc, "x")?)?)?, "class")?;
+    let below = member(
+        alloc,
+        cast(alloc, int(), minus(alloc, var(alloc, "x")?)?)?,
+        "class",
+    )?;
     assert_eq!(rt; laid(alloc, &below)?.as_str(), "((int)(-x)).@class");
     Ok(())
 }

@@ -4,7 +4,7 @@ ghost use Rattle.std.specs.Prelude.{◌≡◌, ◌++◌, OnOk, map};
 ghost use Rattle.std.specs.List.{flat_map};
 ghost use Rattle.std.specs.String.{string_bytes};
 ghost use Rattle.cs_layout.specs.Pieces.{piece_bytes, followed};
-ghost use Rattle.cs_layout.specs.Words.{unary_pieces, binary_pieces, assign_pieces, binary_level as level_of_binary, name, path, more_names, keyword_type, type_without_ranks, ranks, type_pieces, number, character, text, truth, literal_pieces, way_pieces, comma, listed, param_pieces};
+ghost use Rattle.cs_layout.specs.Words.{unary_pieces, binary_pieces, assign_pieces, binary_level as level_of_binary, name, path, dotted, more_names, keyword_type, type_without_ranks, ranks, type_pieces, number, character, text, truth, literal_pieces, way_pieces, comma, listed, param_pieces};
 
 use crate::fixed::{Fixed, write_fixed};
 use cs_token::Suffix;
@@ -13,6 +13,7 @@ use cs_tree::{
 };
 use dc_base::{NoMemory, Text};
 
+#[tactic(auto, unfolding(crate::specs::Words::unary_pieces))]
 fn unary_text(op: UnaryOp) -> &'static str
     ensures { result.now ≡ flat_map piece_bytes (unary_pieces op) }
 {
@@ -23,6 +24,7 @@ fn unary_text(op: UnaryOp) -> &'static str
     }
 }
 
+#[tactic(auto, unfolding(crate::specs::Words::binary_pieces))]
 fn binary_text(op: BinaryOp) -> &'static str
     ensures { result.now ≡ flat_map piece_bytes (binary_pieces op) }
 {
@@ -48,6 +50,7 @@ fn binary_text(op: BinaryOp) -> &'static str
     }
 }
 
+#[tactic(auto, unfolding(crate::specs::Words::assign_pieces))]
 fn assign_text(op: AssignOp) -> &'static str
     ensures { result.now ≡ flat_map piece_bytes (assign_pieces op) }
 {
@@ -61,6 +64,7 @@ fn assign_text(op: AssignOp) -> &'static str
     }
 }
 
+#[tactic(auto, unfolding(crate::specs::Words::keyword_type))]
 fn keyword_text(keyword: KeywordType) -> &'static str
     ensures { result.now ≡ flat_map piece_bytes (keyword_type keyword) }
 {
@@ -98,6 +102,7 @@ pub(crate) fn binary_level(op: BinaryOp) -> u8
     }
 }
 
+#[tactic(auto, unfolding(crate::specs::Pieces::followed))]
 pub(crate) fn write_unary(out: &mut String, op: UnaryOp) -> Result<(), NoMemory>
     ensures { OnOk result (string_bytes out.new ≡ followed (string_bytes out.old) (unary_pieces op)) }
 {
@@ -105,6 +110,7 @@ pub(crate) fn write_unary(out: &mut String, op: UnaryOp) -> Result<(), NoMemory>
     Ok(())
 }
 
+#[tactic(auto, unfolding(crate::specs::Pieces::followed))]
 pub(crate) fn write_binary(out: &mut String, op: BinaryOp) -> Result<(), NoMemory>
     ensures { OnOk result (string_bytes out.new ≡ followed (string_bytes out.old) (binary_pieces op)) }
 {
@@ -112,6 +118,7 @@ pub(crate) fn write_binary(out: &mut String, op: BinaryOp) -> Result<(), NoMemor
     Ok(())
 }
 
+#[tactic(auto, unfolding(crate::specs::Pieces::followed))]
 pub(crate) fn write_assign(out: &mut String, op: AssignOp) -> Result<(), NoMemory>
     ensures { OnOk result (string_bytes out.new ≡ followed (string_bytes out.old) (assign_pieces op)) }
 {
@@ -119,6 +126,7 @@ pub(crate) fn write_assign(out: &mut String, op: AssignOp) -> Result<(), NoMemor
     Ok(())
 }
 
+#[tactic(auto, unfolding(crate::specs::Pieces::followed))]
 fn write_keyword_type(out: &mut String, keyword: KeywordType) -> Result<(), NoMemory>
     ensures { OnOk result (string_bytes out.new ≡ followed (string_bytes out.old) (keyword_type keyword)) }
 {
@@ -126,24 +134,28 @@ fn write_keyword_type(out: &mut String, keyword: KeywordType) -> Result<(), NoMe
     Ok(())
 }
 
+#[tactic(auto, unfolding(crate::specs::Pieces::followed, crate::specs::Words::name))]
 pub(crate) fn write_name(out: &mut String, text: &Text) -> Result<(), NoMemory>
     ensures { OnOk result (string_bytes out.new ≡ followed (string_bytes out.old) (name text.now)) }
 {
     cs_written::write_name(out, text.as_str())
 }
 
+#[tactic(auto, unfolding(crate::specs::Pieces::followed, crate::specs::Words::number))]
 fn write_number(out: &mut String, value: u64, suffix: Suffix) -> Result<(), NoMemory>
     ensures { OnOk result (string_bytes out.new ≡ followed (string_bytes out.old) (number value suffix)) }
 {
     cs_written::write_number(out, value, suffix)
 }
 
+#[tactic(auto, unfolding(crate::specs::Pieces::followed, crate::specs::Words::character))]
 fn write_character(out: &mut String, unit: u16) -> Result<(), NoMemory>
     ensures { OnOk result (string_bytes out.new ≡ followed (string_bytes out.old) (character unit)) }
 {
     cs_written::write_character(out, unit)
 }
 
+#[tactic(auto, unfolding(crate::specs::Pieces::followed, crate::specs::Words::text))]
 fn write_text(out: &mut String, units: &[u16]) -> Result<(), NoMemory>
     ensures { OnOk result (string_bytes out.new ≡ followed (string_bytes out.old) (text units.now)) }
 {
@@ -172,13 +184,21 @@ pub fn write_literal(out: &mut String, literal: &Literal) -> Result<(), NoMemory
     }
 }
 
+/// A name behind a dot.
 #[tactic(auto, using(crate::proofs::Following::followed_append))]
+fn write_dotted(out: &mut String, text: &Text) -> Result<(), NoMemory>
+    ensures { OnOk result (string_bytes out.new ≡ followed (string_bytes out.old) (dotted text.now)) }
+{
+    write_fixed(out, Fixed::Dot)?;
+    write_name(out, text)
+}
+
+#[tactic(auto, using(crate::proofs::Following::followed_nothing))]
 fn write_more_names(out: &mut String, names: &[Text]) -> Result<(), NoMemory>
     ensures { OnOk result (string_bytes out.new ≡ followed (string_bytes out.old) (more_names names.now)) }
 {
     for text in names {
-        write_fixed(out, Fixed::Dot)?;
-        write_name(out, text)?;
+        write_dotted(out, text)?;
     }
     Ok(())
 }
@@ -192,7 +212,8 @@ pub fn write_path(out: &mut String, names: &[Text]) -> Result<(), NoMemory>
         [] => Ok(()),
         [first, rest @ ..] => {
             write_name(out, first)?;
-            write_more_names(out, rest)
+            write_more_names(out, rest)?;
+            Ok(())
         }
     }
 }
@@ -210,7 +231,7 @@ pub(crate) fn write_type_name(out: &mut String, ty: &TypeName) -> Result<(), NoM
     }
 }
 
-#[tactic(auto, using(crate::proofs::Following::followed_append))]
+#[tactic(auto, using(crate::proofs::Following::followed_nothing, crate::proofs::Following::followed_rank))]
 pub(crate) fn write_ranks(out: &mut String, count: u32) -> Result<(), NoMemory>
     ensures { OnOk result (string_bytes out.new ≡ followed (string_bytes out.old) (ranks count)) }
 {
@@ -261,6 +282,7 @@ pub(crate) fn write_comma(out: &mut String, before: usize) -> Result<(), NoMemor
 }
 
 /// Parameters with commas between them.
+#[tactic(auto, using(crate::proofs::Following::followed_nothing))]
 pub fn write_params(out: &mut String, params: &[Param]) -> Result<(), NoMemory>
     ensures { OnOk result (string_bytes out.new ≡ followed (string_bytes out.old) (listed (map param_pieces params.now))) }
 {

@@ -1,3 +1,4 @@
+use Rattle.std.proofs.Common.{[]}
 use Rattle.cs_layout.proofs.Written.{bytes_from}
 use Rattle.cs_layout.proofs.reading.laid_is_written.Goals as goal
 
