@@ -1,11 +1,10 @@
 -- The layout of expressions and statements (ECMA-334, clauses 12 and 13): one statement or brace a line, four blanks a level, and the
 -- fewest parentheses. Each function prints one layer; the parts in it are printed. What a part is printed as depends on the margin, the
 -- blanks before the line on which its statement begins.
-use Rattle.std.specs.Prelude.{◌≡◌, ℕ, ◌+◌, Bool, true, false, cond, ◌&&◌, ◌||◌, nat_lt, List, [], ◌∷◌, ◌++◌, map, Option, Some, None, codes}
+use Rattle.std.specs.Prelude.{ℕ, ◌+◌, Bool, true, false, ◌&&◌, ◌||◌, nat_lt, List, [], ◌∷◌, ◌++◌, map, Option, Some, None, codes}
 use Rattle.std.specs.List.{flat_map}
 use Rattle.cs_tree.specs.declared.types.Name.{Name}
 use Rattle.cs_tree.specs.declared.types.TypeForm.{TypeForm}
-use Rattle.cs_tree.specs.declared.types.Way.{Way}
 use Rattle.cs_tree.specs.declared.forms.UnaryOp.{UnaryOp}
 use Rattle.cs_tree.specs.declared.forms.UnaryOp.TheVariants as op
 use Rattle.cs_tree.specs.declared.forms.SwitchLabel.{SwitchLabel}

@@ -3,7 +3,7 @@ use Rattle.std.specs.Prelude.{◌≡◌, ℕ, Bool, true, ◌&&◌, List, [], �
 use Rattle.std.specs.List.{flat_map, list_all}
 use Rattle.std.proofs.Math.Utf8.{encodes}
 use Rattle.cs_token.specs.declared.lexeme.Lexeme.{Lexeme}
-use Rattle.cs_token.specs.declared.lexeme.Lexeme.TheVariants.{Name, Keyword, Number, Char, Literal, Sign}
+use Rattle.cs_token.specs.declared.lexeme.Lexeme.TheVariants.{Name, Keyword, Sign}
 use Rattle.cs_token.specs.Words.{is_blank}
 use Rattle.cs_written.specs.Spelled.{spelled}
 use Rattle.cs_written.specs.Written.{written}

@@ -1,6 +1,6 @@
 -- The tokens of what doesn't depend on a tree's parts, and those of names, types, literals and operators. Signs and keywords stand by
 -- their number; what they are is written beside them.
-use Rattle.std.specs.Prelude.{◌≡◌, ℕ, zero, suc, ◌+◌, Bool, true, false, cond, List, [], ◌∷◌, ◌++◌, codes}
+use Rattle.std.specs.Prelude.{ℕ, zero, suc, Bool, true, false, List, [], ◌∷◌, ◌++◌, codes}
 use Rattle.std.specs.List.{flat_map}
 use Rattle.cs_token.specs.declared.lexeme.Suffix.{Suffix}
 use Rattle.cs_token.specs.declared.lexeme.Lexeme.TheVariants as lexeme

@@ -134,7 +134,8 @@ fn text(part: Fixed) -> &'static str
 }
 
 #[tactic(auto, unfolding(crate::specs::Pieces::followed))]
-pub(crate) fn write_fixed(out: &mut String, part: Fixed) -> Result<(), NoMemory>
+/// Writes a part that is the same in all trees.
+pub fn write_fixed(out: &mut String, part: Fixed) -> Result<(), NoMemory>
     ensures { OnOk result (string_bytes out.new ≡ followed (string_bytes out.old) (fixed part)) }
 {
     out.push_str(text(part))?;

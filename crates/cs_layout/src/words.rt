@@ -1,68 +1,15 @@
-// Names, types, literals and operators.
+// Names, types, literals and parameters.
 
 ghost use Rattle.std.specs.Prelude.{◌≡◌, ◌++◌, OnOk, map};
 ghost use Rattle.std.specs.List.{flat_map};
 ghost use Rattle.std.specs.String.{string_bytes};
 ghost use Rattle.cs_layout.specs.Pieces.{piece_bytes, followed};
-ghost use Rattle.cs_layout.specs.Words.{unary_pieces, binary_pieces, assign_pieces, binary_level as level_of_binary, name, path, dotted, more_names, keyword_type, type_without_ranks, ranks, type_pieces, number, character, text, truth, literal_pieces, way_pieces, comma, listed, param_pieces};
+ghost use Rattle.cs_layout.specs.Words.{name, path, dotted, more_names, keyword_type, type_without_ranks, ranks, type_pieces, number, character, text, truth, literal_pieces, way_pieces, comma, listed, param_pieces};
 
 use crate::fixed::{Fixed, write_fixed};
 use cs_token::Suffix;
-use cs_tree::{
-    AssignOp, BinaryOp, KeywordType, Literal, Name, Param, TypeForm, TypeName, UnaryOp, Way,
-};
+use cs_tree::{KeywordType, Literal, Param, TypeForm, TypeName, Way};
 use dc_base::{NoMemory, Text};
-
-#[tactic(auto, unfolding(crate::specs::Words::unary_pieces))]
-fn unary_text(op: UnaryOp) -> &'static str
-    ensures { result.now ≡ flat_map piece_bytes (unary_pieces op) }
-{
-    match op {
-        UnaryOp::Not => "!",
-        UnaryOp::Complement => "~",
-        UnaryOp::Minus => "-",
-    }
-}
-
-#[tactic(auto, unfolding(crate::specs::Words::binary_pieces))]
-fn binary_text(op: BinaryOp) -> &'static str
-    ensures { result.now ≡ flat_map piece_bytes (binary_pieces op) }
-{
-    match op {
-        BinaryOp::Or => " || ",
-        BinaryOp::And => " && ",
-        BinaryOp::BitOr => " | ",
-        BinaryOp::BitXor => " ^ ",
-        BinaryOp::BitAnd => " & ",
-        BinaryOp::Equal => " == ",
-        BinaryOp::Unequal => " != ",
-        BinaryOp::Less => " < ",
-        BinaryOp::Greater => " > ",
-        BinaryOp::AtMost => " <= ",
-        BinaryOp::AtLeast => " >= ",
-        BinaryOp::ShiftLeft => " << ",
-        BinaryOp::ShiftRight => " >> ",
-        BinaryOp::Add => " + ",
-        BinaryOp::Sub => " - ",
-        BinaryOp::Mul => " * ",
-        BinaryOp::Div => " / ",
-        BinaryOp::Rem => " % ",
-    }
-}
-
-#[tactic(auto, unfolding(crate::specs::Words::assign_pieces))]
-fn assign_text(op: AssignOp) -> &'static str
-    ensures { result.now ≡ flat_map piece_bytes (assign_pieces op) }
-{
-    match op {
-        AssignOp::Add => " += ",
-        AssignOp::Sub => " -= ",
-        AssignOp::Mul => " *= ",
-        AssignOp::BitAnd => " &= ",
-        AssignOp::BitOr => " |= ",
-        AssignOp::BitXor => " ^= ",
-    }
-}
 
 #[tactic(auto, unfolding(crate::specs::Words::keyword_type))]
 fn keyword_text(keyword: KeywordType) -> &'static str
@@ -84,48 +31,6 @@ fn keyword_text(keyword: KeywordType) -> &'static str
     }
 }
 
-/// How tightly an operator binds; a greater number binds tighter.
-pub(crate) fn binary_level(op: BinaryOp) -> u8
-    ensures { result ≡ level_of_binary op }
-{
-    match op {
-        BinaryOp::Or => 1,
-        BinaryOp::And => 2,
-        BinaryOp::BitOr => 3,
-        BinaryOp::BitXor => 4,
-        BinaryOp::BitAnd => 5,
-        BinaryOp::Equal | BinaryOp::Unequal => 6,
-        BinaryOp::Less | BinaryOp::Greater | BinaryOp::AtMost | BinaryOp::AtLeast => 7,
-        BinaryOp::ShiftLeft | BinaryOp::ShiftRight => 8,
-        BinaryOp::Add | BinaryOp::Sub => 9,
-        BinaryOp::Mul | BinaryOp::Div | BinaryOp::Rem => 10,
-    }
-}
-
-#[tactic(auto, unfolding(crate::specs::Pieces::followed))]
-pub(crate) fn write_unary(out: &mut String, op: UnaryOp) -> Result<(), NoMemory>
-    ensures { OnOk result (string_bytes out.new ≡ followed (string_bytes out.old) (unary_pieces op)) }
-{
-    out.push_str(unary_text(op))?;
-    Ok(())
-}
-
-#[tactic(auto, unfolding(crate::specs::Pieces::followed))]
-pub(crate) fn write_binary(out: &mut String, op: BinaryOp) -> Result<(), NoMemory>
-    ensures { OnOk result (string_bytes out.new ≡ followed (string_bytes out.old) (binary_pieces op)) }
-{
-    out.push_str(binary_text(op))?;
-    Ok(())
-}
-
-#[tactic(auto, unfolding(crate::specs::Pieces::followed))]
-pub(crate) fn write_assign(out: &mut String, op: AssignOp) -> Result<(), NoMemory>
-    ensures { OnOk result (string_bytes out.new ≡ followed (string_bytes out.old) (assign_pieces op)) }
-{
-    out.push_str(assign_text(op))?;
-    Ok(())
-}
-
 #[tactic(auto, unfolding(crate::specs::Pieces::followed))]
 fn write_keyword_type(out: &mut String, keyword: KeywordType) -> Result<(), NoMemory>
     ensures { OnOk result (string_bytes out.new ≡ followed (string_bytes out.old) (keyword_type keyword)) }
@@ -134,8 +39,9 @@ fn write_keyword_type(out: &mut String, keyword: KeywordType) -> Result<(), NoMe
     Ok(())
 }
 
+/// Writes a name, behind an `@` where it is a keyword's word.
 #[tactic(auto, unfolding(crate::specs::Pieces::followed, crate::specs::Words::name))]
-pub(crate) fn write_name(out: &mut String, text: &Text) -> Result<(), NoMemory>
+pub fn write_name(out: &mut String, text: &Text) -> Result<(), NoMemory>
     ensures { OnOk result (string_bytes out.new ≡ followed (string_bytes out.old) (name text.now)) }
 {
     cs_written::write_name(out, text.as_str())
@@ -172,6 +78,7 @@ fn write_truth(out: &mut String, value: bool) -> Result<(), NoMemory>
     }
 }
 
+/// Writes a literal.
 pub fn write_literal(out: &mut String, literal: &Literal) -> Result<(), NoMemory>
     ensures { OnOk result (string_bytes out.new ≡ followed (string_bytes out.old) (literal_pieces literal.now)) }
 {
@@ -218,8 +125,9 @@ pub fn write_path(out: &mut String, names: &[Text]) -> Result<(), NoMemory>
     }
 }
 
+/// Writes a type without its brackets.
 #[tactic(auto, using(crate::proofs::Following::followed_append))]
-pub(crate) fn write_type_name(out: &mut String, ty: &TypeName) -> Result<(), NoMemory>
+pub fn write_type_name(out: &mut String, ty: &TypeName) -> Result<(), NoMemory>
     ensures { OnOk result (string_bytes out.new ≡ followed (string_bytes out.old) (type_without_ranks ty.now)) }
 {
     match ty {
@@ -231,8 +139,9 @@ pub(crate) fn write_type_name(out: &mut String, ty: &TypeName) -> Result<(), NoM
     }
 }
 
+/// Writes so many pairs of brackets.
 #[tactic(auto, using(crate::proofs::Following::followed_nothing, crate::proofs::Following::followed_rank))]
-pub(crate) fn write_ranks(out: &mut String, count: u32) -> Result<(), NoMemory>
+pub fn write_ranks(out: &mut String, count: u32) -> Result<(), NoMemory>
     ensures { OnOk result (string_bytes out.new ≡ followed (string_bytes out.old) (ranks count)) }
 {
     for _rank in 0..count {
@@ -241,6 +150,7 @@ pub(crate) fn write_ranks(out: &mut String, count: u32) -> Result<(), NoMemory>
     Ok(())
 }
 
+/// Writes a type.
 #[tactic(auto, using(crate::proofs::Following::followed_append))]
 pub fn write_type(out: &mut String, ty: &TypeForm) -> Result<(), NoMemory>
     ensures { OnOk result (string_bytes out.new ≡ followed (string_bytes out.old) (type_pieces ty.now)) }
@@ -249,8 +159,9 @@ pub fn write_type(out: &mut String, ty: &TypeForm) -> Result<(), NoMemory>
     write_ranks(out, ty.ranks)
 }
 
+/// Writes how an argument or a parameter is passed.
 #[tactic(auto, using(crate::proofs::Following::followed_nothing))]
-pub(crate) fn write_way(out: &mut String, way: Way) -> Result<(), NoMemory>
+pub fn write_way(out: &mut String, way: Way) -> Result<(), NoMemory>
     ensures { OnOk result (string_bytes out.new ≡ followed (string_bytes out.old) (way_pieces way)) }
 {
     match way {
@@ -272,7 +183,7 @@ fn write_param(out: &mut String, param: &Param) -> Result<(), NoMemory>
 
 /// Nothing before the first of several parts, and a comma before each other one.
 #[tactic(auto, using(crate::proofs::Following::followed_nothing))]
-pub(crate) fn write_comma(out: &mut String, before: usize) -> Result<(), NoMemory>
+pub fn write_comma(out: &mut String, before: usize) -> Result<(), NoMemory>
     ensures { OnOk result (string_bytes out.new ≡ followed (string_bytes out.old) (comma before)) }
 {
     if before == 0 {

@@ -1,4 +1,4 @@
-use Rattle.std.proofs.Common.{◌≡◌, ◌-◌}
+use Rattle.std.proofs.Common.{◌≡◌}
 use Rattle.std.specs.String.{string_bytes}
 use Rattle.cs_layout.specs.Pieces.{followed}
 use Rattle.cs_layout.specs.Words.{ranks}
