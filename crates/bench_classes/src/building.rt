@@ -1,6 +1,6 @@
 // What comes of made rows.
 
-use crate::made::{Rows, chain, plain};
+use crate::made::{Rows, chain, far, overrides, plain};
 use class_table::{build, is_buildable};
 use dc_base::{NoMemory, Or};
 use std::alloc::{AllocError, Global};
@@ -13,7 +13,9 @@ pub fn told(alloc: Global, task: &str, shape: &str, count: &str) -> Result<Strin
     let rows = match shape {
         "chain" => chain(alloc, count),
         "plain" => plain(alloc, count),
-        _ => return String::from_str(alloc, "a shape is chain or plain"),
+        "overrides" => overrides(alloc, count),
+        "far" => far(alloc, count),
+        _ => return String::from_str(alloc, "a shape is chain, plain, overrides or far"),
     };
     match rows {
         Ok(rows) => told_of_rows(alloc, task, rows),

@@ -199,3 +199,67 @@ fn grouped(
         Some(TypeId(interface)),
     )
 }
+
+fn root(alloc: Global, count: u32) -> Result<Rows, NoMemory> {
+    let mut types = core_types(alloc)?;
+    let mut members = Vec::new(alloc);
+    let name = numbered(alloc, "R", 0, 0)?;
+    types.push(type_row(alloc, name, "", Kind::Class, Some(TypeId(0)), None)?)?;
+    for k in 0..count {
+        members.push(method_row(
+            alloc,
+            behind_core(0),
+            numbered(alloc, "M", k, 0)?,
+            Virt::Virtual,
+        ))?;
+    }
+    Ok(Rows { types, members })
+}
+
+// The base of a class in a chain under the root, by its number and its place.
+fn base_under_root(own: u32, k: u32) -> TypeId {
+    if k == 0 {
+        TypeId(behind_core(0))
+    } else {
+        TypeId(own.saturating_sub(1))
+    }
+}
+
+/// A class with so many methods, and under it a chain of as many classes, each of which overrides another one of them.
+pub fn overrides(alloc: Global, count: u32) -> Result<Rows, NoMemory> {
+    let Rows {
+        mut types,
+        mut members,
+    } = root(alloc, count)?;
+    for k in 0..count {
+        let own = behind_core(1).saturating_add(k);
+        let base = Some(base_under_root(own, k));
+        let name = numbered(alloc, "C", k, 0)?;
+        types.push(type_row(alloc, name, "", Kind::Class, base, None)?)?;
+        members.push(method_row(alloc, own, numbered(alloc, "M", k, 0)?, Virt::Override))?;
+    }
+    Ok(Rows { types, members })
+}
+
+/// A class with so many methods, as many interfaces of one method each that it has, and under it a chain of as many classes, each
+/// of which names another one of them.
+pub fn far(alloc: Global, count: u32) -> Result<Rows, NoMemory> {
+    let Rows {
+        mut types,
+        mut members,
+    } = root(alloc, count)?;
+    for k in 0..count {
+        let own = behind_core(1).saturating_add(k);
+        let name = numbered(alloc, "I", k, 0)?;
+        types.push(type_row(alloc, name, "", Kind::Interface, None, None)?)?;
+        members.push(method_row(alloc, own, numbered(alloc, "M", k, 0)?, Virt::Abstract))?;
+    }
+    for k in 0..count {
+        let interface = behind_core(1).saturating_add(k);
+        let own = interface.saturating_add(count);
+        let base = Some(base_under_root(own, k));
+        let name = numbered(alloc, "C", k, 0)?;
+        types.push(type_row(alloc, name, "", Kind::Class, base, Some(TypeId(interface)))?)?;
+    }
+    Ok(Rows { types, members })
+}
