@@ -1,10 +1,10 @@
 -- The list of a row, and the row of a list, found in a column.
-use Rattle.std.proofs.Common.{◌≡◌, ◌↔◌, ℕ, ◌+◌, ◌-◌, ◌<◌, ◌≤◌, Bool, true, false, List, length, get_or, leb, leb-true, inl, inr, sym, ap, subst, ◌∙◌, arith}
+use Rattle.std.proofs.Common.{◌≡◌, ◌↔◌, ℕ, ◌+◌, ◌-◌, ◌<◌, ◌≤◌, true, false, List, length, get_or, leb, leb-true, inl, inr, ap, arith}
 use Rattle.std.proofs.lemmas.Bool.{cases_lt}
 use Rattle.std.proofs.lemmas.List.{get_or_default}
 use Rattle.std.proofs.lemmas.List.Sorted.{IsPartitionedBy-leb}
 use Rattle.std.specs.List.Sorted.{IsPartitionPoint, IsPartitionedBy, IsNonDecreasing}
-use Rattle.cli_lists.specs.Starts.{cell_of, AreStarts, IsInList}
+use Rattle.cli_lists.specs.Starts.{cell_of, IsInList}
 use Rattle.cli_lists.specs.Lists.{IsListColumn}
 use Rattle.cli_lists.specs.declared.column.ListColumn.{ListColumn}
 use Rattle.cli_lists.proofs.Stretches.{never_falls}
@@ -25,10 +25,13 @@ list_exact c k end column low high next last n = (
     ];
     before_next = λ lt. omega (arith, both.1, next lt, at_index c.cells k);
   },
-  λ in_list. (in_list.from, elim (cases_lt k (length c.cells)) [
-    | inl lt ↦ omega (arith, in_list.before_next lt, next lt, at_index c.cells k)
-    | inr ge ↦ omega (arith, in_list.within, last ge)
-  ]),
+  λ in_list. (
+    in_list.from,
+    elim (cases_lt k (length c.cells)) [
+      | inl lt ↦ omega (arith, in_list.before_next lt, next lt, at_index c.cells k)
+      | inr ge ↦ omega (arith, in_list.within, last ge)
+    ],
+  ),
 )
 
 pub nondecreasing : (c : ListColumn) → IsListColumn c → IsNonDecreasing c.cells

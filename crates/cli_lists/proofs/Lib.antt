@@ -1,3 +1,4 @@
 mod Stretches
 mod Columns
 mod Wrong
+mod Least

@@ -1,7 +1,7 @@
 -- Starts never fall, so lists are stretches one behind the other.
-use Rattle.std.proofs.Common.{◌≡◌, ℕ, zero, suc, ◌+◌, ◌-◌, ◌<◌, ◌≤◌, List, length, get_or, inl, inr, subst, arith}
+use Rattle.std.proofs.Common.{◌≡◌, ℕ, zero, suc, ◌+◌, ◌-◌, ◌<◌, ◌≤◌, List, length, inl, inr, subst, arith}
 use Rattle.std.proofs.lemmas.Bool.{cases_lt}
-use Rattle.cli_lists.specs.Starts.{cell_of, IsStart, AreStarts, IsInList}
+use Rattle.cli_lists.specs.Starts.{cell_of, AreStarts}
 use Rattle.cli_lists.specs.Laws.{HasOneOwner, StandInOrder}
 
 -- a later cell is no lower

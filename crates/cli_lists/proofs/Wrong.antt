@@ -1,5 +1,5 @@
 -- What a first broken row, or none, says of the columns.
-use Rattle.std.proofs.Common.{◌≡◌, ℕ, ◌+◌, ◌-◌, ◌<◌, ◌≤◌, ◌^◌, List, [], ◌∷◌, length, Ok, Err, sym, ap, subst, ◌∙◌, arith}
+use Rattle.std.proofs.Common.{◌≡◌, ℕ, ◌+◌, ◌-◌, ◌<◌, ◌^◌, List, [], ◌∷◌, length, Ok, Err, ap, subst, arith}
 use Rattle.std.proofs.lemmas.List.FromFn.{length-map-range_with_len}
 use Rattle.dc_causes.specs.Rows.{OfRow, OfRows}
 use Rattle.dc_causes.specs.Causes.{InOrder}
@@ -11,23 +11,21 @@ use Rattle.cli_metadata.specs.Metadata.{Contents, rows_of, row_of}
 use Rattle.cli_tables.specs.Types.{type_def_of}
 use Rattle.cli_tables.specs.Members.{method_def_of}
 use Rattle.cli_tables.specs.Properties.{property_map_of}
-use Rattle.cli_lists.specs.declared.column.ListColumn.{ListColumn}
-use Rattle.cli_lists.specs.declared.lists.Lists.{Lists}
 use Rattle.cli_lists.specs.declared.owner.Owner.{Owner}
 use Rattle.cli_lists.specs.declared.owner.Owner.TheVariants.{TypeDef, MethodDef, PropertyMap}
 use Rattle.cli_lists.specs.Starts.{IsStart}
-use Rattle.cli_lists.specs.Lists.{FewRows, cells_in, lists_of, IsListColumn, AreLists, owners, BeginsLists}
+use Rattle.cli_lists.specs.Lists.{FewRows, HaveEachRow, cells_in, lists_of, IsListColumn, AreLists, owners, BeginsLists}
 
 -- a column has a cell for each row
-long : (m : Contents) (table : Table) (list : List ℕ → ℕ) → length (cells_in m table list) ≡ rows_of m table
+pub long : (m : Contents) (table : Table) (list : List ℕ → ℕ) → length (cells_in m table list) ≡ rows_of m table
 long m table list = length-map-range_with_len (λ (k : ℕ). list (row_of m table (k + 1))) 0 (rows_of m table)
 
-few_owners : (m : Contents) (owner : Owner) → FewRows m → owners owner (lists_of m) < 2 ^ 24
+pub few_owners : (m : Contents) (owner : Owner) → FewRows m → owners owner (lists_of m) < 2 ^ 24
 few_owners m TypeDef few = omega (arith, long m tables.TypeDef (λ row. (type_def_of row).fields), few.types)
 few_owners m MethodDef few = omega (arith, long m tables.MethodDef (λ row. (method_def_of row).params), few.methods)
 few_owners m PropertyMap few = omega (arith, long m tables.PropertyMap (λ row. (property_map_of row).properties), few.property_maps)
 
-abbrev all : List Owner
+abbrev pub all : List Owner
 all = TypeDef ∷ MethodDef ∷ PropertyMap ∷ []
 
 pub row_fits : (m : Contents) (owner : Owner) (row : ℕ) → FewRows m → OfRows owners BeginsLists (lists_of m) all (Err (owner, row)) → row + 1 < 2 ^ 24
@@ -59,3 +57,11 @@ are_lists m few met =
       params = column m tables.MethodDef (λ row. (method_def_of row).params) _ few.methods few.params (λ k lt. methods.1 k (omega (arith, lt, long m tables.MethodDef (λ row. (method_def_of row).params))));
       properties = column m tables.PropertyMap (λ row. (property_map_of row).properties) _ few.property_maps few.properties (λ k lt. maps.1 k (omega (arith, lt, long m tables.PropertyMap (λ row. (property_map_of row).properties))));
     }
+
+pub each_row : (m : Contents) → HaveEachRow m (lists_of m)
+each_row m = record {
+  fields = long m tables.TypeDef (λ row. (type_def_of row).fields);
+  methods = long m tables.TypeDef (λ row. (type_def_of row).methods);
+  params = long m tables.MethodDef (λ row. (method_def_of row).params);
+  properties = long m tables.PropertyMap (λ row. (property_map_of row).properties);
+}

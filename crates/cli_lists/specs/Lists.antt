@@ -1,5 +1,5 @@
 -- The list columns of metadata, and which row's cell is wrong first.
-use Rattle.std.specs.Prelude.{ℕ, ◌+◌, ◌*◌, ◌^◌, ◌≤◌, ◌<◌, List, [], ◌∷◌, length, map}
+use Rattle.std.specs.Prelude.{◌≡◌, ℕ, ◌+◌, ◌*◌, ◌^◌, ◌<◌, List, [], ◌∷◌, length, map}
 use Rattle.std.specs.List.{range_with_len}
 use Rattle.dc_base.specs.declared.names.Token.{Token}
 use Rattle.dc_causes.specs.Step.{Step, Told}
@@ -40,6 +40,13 @@ lists_of m = record {
   params = record { cells = cells_in m tables.MethodDef (λ row. (method_def_of row).params); rows = rows_of m tables.Param };
   properties = record { cells = cells_in m tables.PropertyMap (λ row. (property_map_of row).properties); rows = rows_of m tables.Property };
 }
+
+-- a column has a cell for each row of its table
+pub record HaveEachRow (m : Contents) (lists : Lists) : Type 0 where
+  pub fields : length lists.fields.cells ≡ rows_of m tables.TypeDef
+  pub methods : length lists.methods.cells ≡ rows_of m tables.TypeDef
+  pub params : length lists.params.cells ≡ rows_of m tables.MethodDef
+  pub properties : length lists.properties.cells ≡ rows_of m tables.PropertyMap
 
 -- a list column with starts of lists, of tables with few rows
 pub record IsListColumn (c : ListColumn) : Type 0 where

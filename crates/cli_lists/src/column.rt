@@ -44,10 +44,7 @@ impl ListColumn {
         ensures some { IfSome result (λ k. IsInList self.now.rows self.now.cells k n) }
         ensures none { IfNone result ((k : ℕ) → IsInList self.now.rows self.now.cells k n → ⊥) }
     {
-        let behind = self
-            .cells
-            .items()
-            .partition_point(|cell| *cell <= n);
+        let behind = self.cells.items().partition_point(|cell| *cell <= n);
         if self.rows < n || behind == 0 {
             return None;
         }

@@ -14,6 +14,6 @@ mod owner;
 mod tests;
 
 pub use column::ListColumn;
-pub use laws::stretches_one_behind_the_other;
+pub use laws::{one_first_fault, stretches_one_behind_the_other};
 pub use lists::{Lists, rows_fit_tokens};
 pub use owner::Owner;

@@ -8,7 +8,7 @@ ghost use Rattle.cli_tables.specs.Types.{type_def_of};
 ghost use Rattle.cli_tables.specs.Members.{method_def_of};
 ghost use Rattle.cli_tables.specs.Properties.{property_map_of};
 ghost use Rattle.dc_causes.specs.Answer.{OnFault};
-ghost use Rattle.cli_lists.specs.Lists.{FewRows, cells_in, lists_of, AreLists, EachBeginsLists};
+ghost use Rattle.cli_lists.specs.Lists.{FewRows, HaveEachRow, cells_in, lists_of, AreLists, EachBeginsLists};
 
 use crate::{ListColumn, Owner};
 use cli_metadata::{Metadata, Table};
@@ -32,6 +32,7 @@ impl Lists {
     pub fn of(alloc: Global, metadata: &Metadata) -> Result<Lists, Or<Token>>
         requires few { FewRows metadata.now }
         ensures columns { IfOk result (λ lists. lists ≡ lists_of metadata.now) }
+        ensures each_row { IfOk result (HaveEachRow metadata.now) }
         ensures lists { IfOk result AreLists }
         ensures fault { IfErr result (OnFault (EachBeginsLists (lists_of metadata.now))) }
     {

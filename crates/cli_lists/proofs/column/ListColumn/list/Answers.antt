@@ -1,4 +1,3 @@
-use Rattle.std.proofs.Common.{rules, subst, List, ℕ}
 use Rattle.cli_lists.proofs.Columns.{list_exact}
 use Rattle.cli_lists.proofs.column.ListColumn.list.Goals as goal
 

@@ -1,7 +1,7 @@
 use Rattle.std.proofs.Common.{◌≡◌, ℕ, List, true, false, leb, rules, subst, sym, arith}
-use Rattle.std.proofs.lemmas.List.Sorted.{IsPartitionPoint-from_clause, IsPartitionedBy-leb}
+use Rattle.std.proofs.lemmas.List.Sorted.{IsPartitionPoint-from_clause}
 use Rattle.std.specs.List.Sorted.{IsPartitionPoint, IsPartitionedBy}
-use Rattle.cli_lists.proofs.Columns.{nondecreasing, owner_there, no_owner, parted}
+use Rattle.cli_lists.proofs.Columns.{owner_there, no_owner, parted}
 use Rattle.cli_lists.proofs.column.ListColumn.owner.Goals as goal
 use Rattle.cli_lists.proofs.column.ListColumn.owner.Goals.{then-self-n-via-then-self-n, then-self-n-via-else-self-n+then-behind-eq0}
 

@@ -3,7 +3,7 @@ use Rattle.cli_lists.specs.declared.lists.Lists.{Lists}
 use Rattle.cli_lists.specs.declared.owner.Owner.TheVariants.{TypeDef, MethodDef, PropertyMap}
 use Rattle.dc_causes.specs.Rows.{OfRows}
 use Rattle.cli_lists.specs.Lists.{owners, BeginsLists}
-use Rattle.cli_lists.proofs.Wrong.{row_fits, are_lists}
+use Rattle.cli_lists.proofs.Wrong.{row_fits, are_lists, each_row}
 use Rattle.cli_lists.proofs.lists.Lists.of.Goals as goal
 
 pub token-requires : goal.token-requires
@@ -20,3 +20,6 @@ pub returns-in-None-clause-lists : goal.returns-in-None-clause-lists
 returns-in-None-clause-lists c =
     let met = subst (λ (lists : Lists). OfRows owners BeginsLists lists (TypeDef ∷ MethodDef ∷ PropertyMap ∷ []) (Ok tt)) c.in_ok-lists.ensures c.in-None.ensures.met in
     rw c.in_ok-lists.ensures (are_lists c.args.metadata.now c.requires.few met)
+
+pub returns-in-None-clause-each_row : goal.returns-in-None-clause-each_row
+returns-in-None-clause-each_row c = rw c.in_ok-lists.ensures (each_row c.args.metadata.now)
