@@ -54,6 +54,7 @@ pub record IsListColumn (c : ListColumn) : Type 0 where
   pub few_rows : c.rows < 2 ^ 24
   pub starts : AreStarts c.rows c.cells
 
+-- four such columns
 pub record AreLists (lists : Lists) : Type 0 where
   pub fields : IsListColumn lists.fields
   pub methods : IsListColumn lists.methods
@@ -62,7 +63,7 @@ pub record AreLists (lists : Lists) : Type 0 where
 
 -- ---- what is wrong
 
--- how many rows the table has
+-- how many rows the table of an owner has
 abbrev pub owners : Owner → Lists → ℕ
 owners TypeDef lists = length lists.fields.cells
 owners MethodDef lists = length lists.params.cells

@@ -1,4 +1,4 @@
--- List columns: which rows of a table stand in the list of which row (ECMA-335 II.22.22, II.22.26, II.22.35, II.22.37).
+-- List columns: which rows of a table stand in the list of which row (ECMA-335 II.22.26, II.22.35, II.22.37).
 -- A cell holds the number of the row, from 1, at which the list begins.
 use Rattle.std.specs.Prelude.{ℕ, ◌+◌, ◌-◌, ◌≤◌, ◌<◌, List, length, slice_index}
 
