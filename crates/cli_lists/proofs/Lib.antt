@@ -1,0 +1,4 @@
+mod Stretches
+mod Columns
+mod Wrong
+mod Least
