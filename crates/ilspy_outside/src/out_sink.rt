@@ -15,8 +15,9 @@ pub struct OutSink<W: Write> {
 }
 
 impl<W: Write> OutSink<W> {
-    /// No call has failed yet, and none has taken anything.
+    /// No call has failed yet, and none has taken anything; nothing is written.
     pub fn of(writer: W) -> Self
+        ensures writer { result.writer ≡ writer }
         ensures faults { ⟦<OutSink<W> as Sink>⟧.faults result ≡ 0 }
         ensures written { ⟦<OutSink<W> as Sink>⟧.written result ≡ [] }
     {
