@@ -1,5 +1,5 @@
 -- What is read below a number of levels is no higher.
-use Rattle.std.proofs.Common.{◌≡◌, ℕ, zero, suc, ◌<◌, ◌≤◌, List, [], ◌∷◌, Result, Ok, Err, IfOk, arith}
+use Rattle.std.proofs.Common.{◌≡◌, ℕ, zero, suc, ◌≤◌, List, [], ◌∷◌, Result, Ok, Err, IfOk, arith}
 use Rattle.dc_base.specs.declared.failure.Or.{Or}
 use Rattle.cs_grammar.specs.declared.fault.Fault.{Fault}
 use Rattle.cs_grammar.specs.Reads.{Reads}

@@ -1,5 +1,5 @@
 -- Where a reader is: how many levels and blocks are left, and what stands one level lower there.
-use Rattle.std.specs.Prelude.{◌≡◌, ℕ, Bool, List, Result, Ok, Err}
+use Rattle.std.specs.Prelude.{◌≡◌, ℕ, List, Result, Ok, Err}
 use Rattle.dc_base.specs.declared.failure.Or.{Or}
 use Rattle.dc_base.specs.declared.failure.Or.TheVariants.{NoMemory, Fault as WithFault}
 use Rattle.cs_token.specs.Placed.{Placed as Token}

@@ -13,7 +13,7 @@ ghost use Rattle.cs_read_calls.specs.Asked.{inner_of, Asked};
 use crate::operators::conditional;
 use cs_grammar::{Cursor, Fault, begins, expect};
 use cs_productions::{Lead, Measured, Part};
-use cs_read_calls::{Ask, Got, Level, element, leaf};
+use cs_read_calls::{Ask, Got, Level, element, held, leaf};
 use cs_read_primaries::called_path;
 use cs_read_types::kinds::{BRACKET, COLONS, EXPRESSION, NAMES, PAREN, UNBRACKET};
 use cs_read_types::{any_name, global_leaf, path, ranks};
@@ -95,6 +95,8 @@ fn index_led<F: Fn(Global, &mut Cursor<Token>, Ask) -> Result<Got, Or<Fault>>>(
     requires within { array.height ≤ level.now.at.left }
     ensures { Reads ((index_led_of level.now.at.left (inner_of level.now.at) array).reads tokens.old) result tokens.new }
 {
+    let _levels = level.levels();
+    let array = held(alloc, array)?;
     let index = level.form(alloc, tokens, Part::Whole)?;
     expect(tokens, UNBRACKET)?;
     let element = element(alloc, array, index)?;

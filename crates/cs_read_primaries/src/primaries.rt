@@ -1,16 +1,19 @@
 // Primary expressions without parentheses.
 
-ghost use Rattle.std.specs.Prelude.{◌≡◌, ◌<◌, ◌≤◌};
+ghost use Rattle.std.specs.Prelude.{◌≡◌, ◌<◌, ◌≤◌, nat_lt, [], ◌∷◌};
 ghost use Rattle.cs_grammar.specs.Reads.{Reads};
 ghost use Rattle.cs_productions.specs.Calls.{called as called_of};
-ghost use Rattle.cs_productions.specs.Tokens.{leaf as leaf_of};
-ghost use Rattle.cs_productions.specs.Primaries.{base_call, of_base as of_base_of, called_path as called_path_of, indexed as indexed_of, behind_path as behind_path_of, global_path as global_path_of, of_global as of_global_of, of_new_object as of_new_object_of, with_member as with_member_of, behind_array as behind_array_of, of_new_array as of_new_array_of, of_new as of_new_of, of_default as of_default_of, of_checked as of_checked_of, of_simple as of_simple_of};
+ghost use Rattle.cs_grammar.specs.Grammar.{gives, guarded};
+ghost use Rattle.cs_productions.specs.Kinds.{bracket};
+ghost use Rattle.cs_productions.specs.Tokens.{kind as kind_of, leaf as leaf_of};
+ghost use Rattle.cs_tree.specs.declared.forms.Form.TheVariants.{BaseMember};
+ghost use Rattle.cs_productions.specs.Primaries.{base_call, path_alone, of_base as of_base_of, called_path as called_path_of, indexed as indexed_of, behind_path as behind_path_of, global_path as global_path_of, of_global as of_global_of, of_new_object as of_new_object_of, with_member as with_member_of, behind_array as behind_array_of, of_new_array as of_new_array_of, of_new as of_new_of, of_default as of_default_of, of_checked as of_checked_of, of_simple as of_simple_of};
 ghost use Rattle.cs_read_calls.specs.Asked.{inner_of, Asked};
 
 use crate::nodes::{checked, new_array};
 use cs_grammar::{Cursor, Fault, begins, expect, take_one};
 use cs_productions::{Args, Measured, Part};
-use cs_read_calls::{Ask, Got, Level, leaf, raised, raised_call};
+use cs_read_calls::{Ask, Got, Level, leaf, raised, raised_call, too_deep};
 use cs_read_types::kinds::{
     BRACKET, COLONS, DOT, KW_BASE, KW_CHECKED, KW_DEFAULT, KW_NEW, KW_UNCHECKED, PAREN, UNBRACKET,
     UNPAREN,
@@ -30,14 +33,15 @@ fn base_member<F: Fn(Global, &mut Cursor<Token>, Ask) -> Result<Got, Or<Fault>>>
 ) -> Result<Measured, Or<Fault>>
     requires callable { F.IsAlwaysCallable level.now.read }
     requires exact { (alloc : _) (tokens : _) (ask : _) (result : _) (after : _) → F.post level.now.read alloc tokens ask result after → Asked level.now.at ask tokens.now result after.now }
-    ensures { Reads ((called_of level.now.at.left (inner_of level.now.at) 0 (base_call spot name) (leaf_of (Form.BaseMember spot name) spot)).reads tokens.old) result tokens.new }
+    ensures { Reads ((called_of level.now.at.left (inner_of level.now.at) 0 (base_call spot name) (leaf_of (BaseMember spot name) spot)).reads tokens.old) result tokens.new }
 {
     if !begins(tokens, &[PAREN]) {
         return Ok(leaf(Form::BaseMember { spot, name }, spot));
     }
-    if level.at.left == 0 {
+    if level.levels() == 0 {
         return Err(Or::Fault(Fault::TooDeep));
     }
+    let _levels = level.levels();
     let Args { args, height } = level.arguments(alloc, tokens)?;
     Ok(raised_call(height, Form::BaseCall { spot, name, args }, spot))
 }
@@ -70,6 +74,7 @@ pub fn called_path<F: Fn(Global, &mut Cursor<Token>, Ask) -> Result<Got, Or<Faul
     requires exact { (alloc : _) (tokens : _) (ask : _) (result : _) (after : _) → F.post level.now.read alloc tokens ask result after → Asked level.now.at ask tokens.now result after.now }
     ensures { Reads ((called_path_of level.now.at.left (inner_of level.now.at) spot path).reads tokens.old) result tokens.new }
 {
+    let _levels = level.levels();
     let Args { args, height } = level.arguments(alloc, tokens)?;
     let call = raised_call(height, Form::GlobalCall { spot, path, args }, spot);
     level.postfixes(alloc, tokens, call)
@@ -90,6 +95,26 @@ fn indexed<F: Fn(Global, &mut Cursor<Token>, Ask) -> Result<Got, Or<Fault>>>(
     level.postfixes(alloc, tokens, element)
 }
 
+fn uncalled_path<F: Fn(Global, &mut Cursor<Token>, Ask) -> Result<Got, Or<Fault>>>(
+    level: &Level<F>,
+    alloc: Global,
+    tokens: &mut Cursor<Token>,
+    spot: Spot,
+    path: Seq<Text>,
+) -> Result<Measured, Or<Fault>>
+    requires callable { F.IsAlwaysCallable level.now.read }
+    requires exact { (alloc : _) (tokens : _) (ask : _) (result : _) (after : _) → F.post level.now.read alloc tokens ask result after → Asked level.now.at ask tokens.now result after.now }
+    ensures { Reads ((guarded kind_of (nat_lt 0 level.now.at.left) (bracket ∷ []) (indexed_of level.now.at.left (inner_of level.now.at) (path_alone spot path)) (gives (path_alone spot path))).reads tokens.old) result tokens.new }
+{
+    if !begins(tokens, &[BRACKET]) {
+        return Ok(leaf(Form::Global { spot, path }, spot));
+    }
+    if level.levels() == 0 {
+        return Err(Or::Fault(Fault::TooDeep));
+    }
+    indexed(level, alloc, tokens, leaf(Form::Global { spot, path }, spot))
+}
+
 fn behind_path<F: Fn(Global, &mut Cursor<Token>, Ask) -> Result<Got, Or<Fault>>>(
     level: &Level<F>,
     alloc: Global,
@@ -101,16 +126,13 @@ fn behind_path<F: Fn(Global, &mut Cursor<Token>, Ask) -> Result<Got, Or<Fault>>>
     requires exact { (alloc : _) (tokens : _) (ask : _) (result : _) (after : _) → F.post level.now.read alloc tokens ask result after → Asked level.now.at ask tokens.now result after.now }
     ensures { Reads ((behind_path_of level.now.at.left (inner_of level.now.at) spot path).reads tokens.old) result tokens.new }
 {
-    if !begins(tokens, &[PAREN, BRACKET]) {
-        return Ok(leaf(Form::Global { spot, path }, spot));
+    if !begins(tokens, &[PAREN]) {
+        return uncalled_path(level, alloc, tokens, spot, path);
     }
-    if level.at.left == 0 {
+    if level.levels() == 0 {
         return Err(Or::Fault(Fault::TooDeep));
     }
-    if begins(tokens, &[PAREN]) {
-        return called_path(level, alloc, tokens, spot, path);
-    }
-    indexed(level, alloc, tokens, leaf(Form::Global { spot, path }, spot))
+    called_path(level, alloc, tokens, spot, path)
 }
 
 fn global_path<F: Fn(Global, &mut Cursor<Token>, Ask) -> Result<Got, Or<Fault>>>(
@@ -156,6 +178,7 @@ fn of_new_object<F: Fn(Global, &mut Cursor<Token>, Ask) -> Result<Got, Or<Fault>
     requires exact { (alloc : _) (tokens : _) (ask : _) (result : _) (after : _) → F.post level.now.read alloc tokens ask result after → Asked level.now.at ask tokens.now result after.now }
     ensures { Reads ((of_new_object_of level.now.at.left (inner_of level.now.at) spot ty).reads tokens.old) result tokens.new }
 {
+    let _levels = level.levels();
     let Args { args, height } = level.arguments(alloc, tokens)?;
     let class = ty.name;
     let object = raised_call(height, Form::New { spot, class, args }, spot);
@@ -190,8 +213,8 @@ fn behind_array<F: Fn(Global, &mut Cursor<Token>, Ask) -> Result<Got, Or<Fault>>
     if !begins(tokens, &[DOT]) {
         return Ok(array);
     }
-    if array.height >= u32::from(level.at.left) {
-        return Err(Or::Fault(Fault::TooDeep));
+    if array.height >= u32::from(level.levels()) {
+        return Err(too_deep(array));
     }
     with_member(level, alloc, tokens, array)
 }
@@ -208,6 +231,7 @@ fn of_new_array<F: Fn(Global, &mut Cursor<Token>, Ask) -> Result<Got, Or<Fault>>
     ensures { Reads ((of_new_array_of level.now.at.left (inner_of level.now.at) spot ty).reads tokens.old) result tokens.new }
 {
     expect(tokens, BRACKET)?;
+    let _levels = level.levels();
     let length = level.form(alloc, tokens, Part::Whole)?;
     expect(tokens, UNBRACKET)?;
     let element = ranks(tokens, level.at.ranks.saturating_sub(1), ty)?;
@@ -263,6 +287,7 @@ pub fn of_checked<F: Fn(Global, &mut Cursor<Token>, Ask) -> Result<Got, Or<Fault
 {
     let token = take_one(tokens, &[KW_CHECKED, KW_UNCHECKED])?;
     expect(tokens, PAREN)?;
+    let _levels = level.levels();
     let inner = level.form(alloc, tokens, Part::Whole)?;
     expect(tokens, UNPAREN)?;
     let value = checked(alloc, token, inner)?;
