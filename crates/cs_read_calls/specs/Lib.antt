@@ -1,0 +1,2 @@
+-- What a reader must believe: what a level is.
+pub mod Asked
