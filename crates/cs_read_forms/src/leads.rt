@@ -119,7 +119,7 @@ fn bracket_led<F: Fn(Global, &mut Cursor<Token>, Ask) -> Result<Got, Or<Fault>>>
     if !begins(tokens, &EXPRESSION) {
         return array_led(alloc, tokens, level.at.blocks, level.at.ranks, by_path(spot, path));
     }
-    if level.at.left == 0 {
+    if level.levels() == 0 {
         return Err(Or::Fault(Fault::TooDeep));
     }
     index_led(level, alloc, tokens, alone(spot, path))
@@ -139,7 +139,7 @@ fn called_or_alone<F: Fn(Global, &mut Cursor<Token>, Ask) -> Result<Got, Or<Faul
     if !begins(tokens, &[PAREN]) {
         return Ok(alone(spot, path));
     }
-    if level.at.left == 0 {
+    if level.levels() == 0 {
         return Err(Or::Fault(Fault::TooDeep));
     }
     called_path(level, alloc, tokens, spot, path)

@@ -1,13 +1,17 @@
 // Two-place operators and `?:` (ECMA-334, 12.10 to 12.14 and 12.18), each level from its first unary expression on.
 
-ghost use Rattle.std.specs.Prelude.{◌≡◌, ◌<◌, ◌≤◌, IfOk};
+ghost use Rattle.std.specs.Prelude.{◌≡◌, ◌==◌, ◌<◌, ◌≤◌, max, cond, IfOk};
 ghost use Rattle.cs_grammar.specs.Reads.{Reads};
-ghost use Rattle.cs_productions.specs.Operators.{binary_form, test_form, conditional_of as conditional_form, one_binary as one_binary_of, binaries as binaries_of, one_test as one_test_of, one_relation as one_relation_of, relations as relations_of, multiplicative as multiplicative_of, additive as additive_of, shift as shift_of, relational as relational_of, equality as equality_of, and as and_of, exclusive_or as exclusive_or_of, inclusive_or as inclusive_or_of, conditional_and as conditional_and_of, conditional_or as conditional_or_of, choosing as choosing_of, chosen as chosen_of, conditional as conditional_of};
+ghost use Rattle.cs_tree.specs.declared.forms.Form.TheVariants.{As, Binary, Conditional, Is};
+ghost use Rattle.cs_productions.specs.Calls.{raised as raised_of};
+ghost use Rattle.cs_productions.specs.Kinds.{kw_is};
+ghost use Rattle.cs_productions.specs.Tokens.{binary_of};
+ghost use Rattle.cs_productions.specs.Operators.{one_binary as one_binary_of, binaries as binaries_of, one_test as one_test_of, one_relation as one_relation_of, relations as relations_of, multiplicative as multiplicative_of, additive as additive_of, shift as shift_of, relational as relational_of, equality as equality_of, and as and_of, exclusive_or as exclusive_or_of, inclusive_or as inclusive_or_of, conditional_and as conditional_and_of, conditional_or as conditional_or_of, choosing as choosing_of, chosen as chosen_of, conditional as conditional_of};
 ghost use Rattle.cs_read_calls.specs.Asked.{inner_of, Asked};
 
 use cs_grammar::{Cursor, Fault, begins, expect};
 use cs_productions::{Measured, Part};
-use cs_read_calls::{Ask, Got, Level, raised};
+use cs_read_calls::{Ask, Got, Level, OnHeap, held, raised, too_deep};
 use cs_read_types::kinds::{
     ADDITIVE, AMP, BAR, BOTH, CARET, COLON, COMPARISONS, EITHER_ONE, EQUALITY, KW_IS,
     MULTIPLICATIVE, QUESTION, RELATIONAL, SHIFT, TYPE_TESTS,
@@ -19,17 +23,18 @@ use dc_base::{Boxed, Or};
 use std::alloc::{AllocError, Global};
 
 /// `a + b`
-fn two(alloc: Global, left: Measured, kind: u16, right: Measured) -> Result<Measured, AllocError>
+fn two(alloc: Global, left: OnHeap, kind: u16, right: Measured) -> Result<Measured, AllocError>
     requires left { left.height < 65536 }
     requires right { right.height < 65536 }
-    ensures { IfOk result (λ m. m ≡ binary_form left kind right) }
+    ensures { IfOk result (λ m. m ≡ raised_of (max left.height right.height) (Binary left.spot (binary_of kind) left.form right.form) left.spot) }
 {
-    let Measured {
-        form, height, spot, ..
+    let OnHeap {
+        form: left,
+        height,
+        spot,
     } = left;
     let higher = height.max(right.height);
     let op = binary(kind);
-    let left = Boxed::new(alloc, form)?;
     let right = Boxed::new(alloc, right.form)?;
     let form = Form::Binary {
         spot,
@@ -41,38 +46,40 @@ fn two(alloc: Global, left: Measured, kind: u16, right: Measured) -> Result<Meas
 }
 
 /// `a is T` or `a as T`, by its operator
-fn tested(alloc: Global, left: Measured, kind: u16, ty: TypeForm) -> Result<Measured, AllocError>
+fn tested(left: OnHeap, kind: u16, ty: TypeForm) -> Measured
     requires { left.height < 65536 }
-    ensures { IfOk result (λ m. m ≡ test_form left kind ty) }
+    ensures { result ≡ raised_of left.height (cond (kind == kw_is) (Is left.spot left.form ty) (As left.spot left.form ty)) left.spot }
 {
-    let Measured {
-        form, height, spot, ..
+    let OnHeap {
+        form: operand,
+        height,
+        spot,
     } = left;
-    let operand = Boxed::new(alloc, form)?;
     if kind == KW_IS {
-        return Ok(raised(height, Form::Is { spot, operand, ty }, spot));
+        return raised(height, Form::Is { spot, operand, ty }, spot);
     }
-    Ok(raised(height, Form::As { spot, operand, ty }, spot))
+    raised(height, Form::As { spot, operand, ty }, spot)
 }
 
 /// `a ? b : c`
 fn three(
     alloc: Global,
-    test: Measured,
-    on_true: Measured,
+    test: OnHeap,
+    on_true: OnHeap,
     on_false: Measured,
 ) -> Result<Measured, AllocError>
     requires test { test.height < 65536 }
     requires on_true { on_true.height < 65536 }
     requires on_false { on_false.height < 65536 }
-    ensures { IfOk result (λ m. m ≡ conditional_form test on_true on_false) }
+    ensures { IfOk result (λ m. m ≡ raised_of (max test.height (max on_true.height on_false.height)) (Conditional test.spot test.form on_true.form on_false.form) test.spot) }
 {
-    let Measured {
-        form, height, spot, ..
+    let OnHeap {
+        form: test,
+        height,
+        spot,
     } = test;
     let higher = height.max(on_true.height.max(on_false.height));
-    let test = Boxed::new(alloc, form)?;
-    let on_true = Boxed::new(alloc, on_true.form)?;
+    let on_true = on_true.form;
     let on_false = Boxed::new(alloc, on_false.form)?;
     let form = Form::Conditional {
         spot,
@@ -96,6 +103,8 @@ fn one_binary<F: Fn(Global, &mut Cursor<Token>, Ask) -> Result<Got, Or<Fault>>>(
     requires within { left.height ≤ level.now.at.left }
     ensures { Reads ((one_binary_of (inner_of level.now.at) operators.now right left).reads tokens.old) result tokens.new }
 {
+    let _levels = level.levels();
+    let left = held(alloc, left)?;
     let kind = operator(tokens, operators)?;
     let next = level.form(alloc, tokens, right)?;
     Ok(two(alloc, left, kind, next)?)
@@ -118,8 +127,8 @@ fn binaries<F: Fn(Global, &mut Cursor<Token>, Ask) -> Result<Got, Or<Fault>>>(
         if !begins(tokens, operators) {
             return Ok(left);
         }
-        if left.height >= u32::from(level.at.left) {
-            return Err(Or::Fault(Fault::TooDeep));
+        if left.height >= u32::from(level.levels()) {
+            return Err(too_deep(left));
         }
         left = one_binary(level, alloc, tokens, operators, right, left)?;
     }
@@ -137,9 +146,11 @@ fn one_test<F: Fn(Global, &mut Cursor<Token>, Ask) -> Result<Got, Or<Fault>>>(
     requires within { left.height ≤ level.now.at.left }
     ensures { Reads ((one_test_of (inner_of level.now.at) left).reads tokens.old) result tokens.new }
 {
+    let _levels = level.levels();
+    let left = held(alloc, left)?;
     let kind = operator(tokens, &TYPE_TESTS)?;
     let ty = ty(alloc, tokens, level.at.ranks)?;
-    Ok(tested(alloc, left, kind, ty)?)
+    Ok(tested(left, kind, ty))
 }
 
 fn one_relation<F: Fn(Global, &mut Cursor<Token>, Ask) -> Result<Got, Or<Fault>>>(
@@ -174,8 +185,8 @@ fn relations<F: Fn(Global, &mut Cursor<Token>, Ask) -> Result<Got, Or<Fault>>>(
         if !begins(tokens, &RELATIONAL) {
             return Ok(left);
         }
-        if left.height >= u32::from(level.at.left) {
-            return Err(Or::Fault(Fault::TooDeep));
+        if left.height >= u32::from(level.levels()) {
+            return Err(too_deep(left));
         }
         left = one_relation(level, alloc, tokens, left)?;
     }
@@ -342,8 +353,11 @@ fn choosing<F: Fn(Global, &mut Cursor<Token>, Ask) -> Result<Got, Or<Fault>>>(
     requires within { test.height ≤ level.now.at.left }
     ensures { Reads ((choosing_of (inner_of level.now.at) test).reads tokens.old) result tokens.new }
 {
+    let _levels = level.levels();
+    let test = held(alloc, test)?;
     expect(tokens, QUESTION)?;
     let on_true = level.form(alloc, tokens, Part::Whole)?;
+    let on_true = held(alloc, on_true)?;
     expect(tokens, COLON)?;
     let on_false = level.form(alloc, tokens, Part::Whole)?;
     Ok(three(alloc, test, on_true, on_false)?)
@@ -362,8 +376,8 @@ fn chosen<F: Fn(Global, &mut Cursor<Token>, Ask) -> Result<Got, Or<Fault>>>(
     if !begins(tokens, &[QUESTION]) {
         return Ok(test);
     }
-    if test.height >= u32::from(level.at.left) {
-        return Err(Or::Fault(Fault::TooDeep));
+    if test.height >= u32::from(level.levels()) {
+        return Err(too_deep(test));
     }
     choosing(level, alloc, tokens, test)
 }

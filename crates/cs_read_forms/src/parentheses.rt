@@ -144,6 +144,7 @@ fn casting<F: Fn(Global, &mut Cursor<Token>, Ask) -> Result<Got, Or<Fault>>>(
     requires exact { (alloc : _) (tokens : _) (ask : _) (result : _) (after : _) → F.post level.now.read alloc tokens ask result after → Asked level.now.at ask tokens.now result after.now }
     ensures { Reads ((casting_of (inner_of level.now.at) spot ty).reads tokens.old) result tokens.new }
 {
+    let _levels = level.levels();
     let operand = level.form(alloc, tokens, Part::Operand)?;
     Ok(cast(alloc, spot, ty, operand)?)
 }
@@ -175,10 +176,14 @@ fn closed_form<F: Fn(Global, &mut Cursor<Token>, Ask) -> Result<Got, Or<Fault>>>
     requires within { inner.height ≤ level.now.at.left }
     ensures { Reads ((closed_form_of level.now.at.left (inner_of level.now.at) spot inner (path_of inner.form)).reads tokens.old) result tokens.new }
 {
-    if begins(tokens, &OPERAND) && is_path(&inner.form) {
-        return casting(level, alloc, tokens, spot, type_of_path(inner.form));
+    let _levels = level.levels();
+    if !is_path(&inner.form) {
+        return level.postfixes(alloc, tokens, raised(inner.height, inner.form, spot));
     }
-    level.postfixes(alloc, tokens, raised(inner.height, inner.form, spot))
+    if !begins(tokens, &OPERAND) {
+        return level.postfixes(alloc, tokens, raised(inner.height, inner.form, spot));
+    }
+    casting(level, alloc, tokens, spot, type_of_path(inner.form))
 }
 
 fn closed<F: Fn(Global, &mut Cursor<Token>, Ask) -> Result<Got, Or<Fault>>>(
@@ -264,6 +269,7 @@ fn plain_in<F: Fn(Global, &mut Cursor<Token>, Ask) -> Result<Got, Or<Fault>>>(
     requires exact { (alloc : _) (tokens : _) (ask : _) (result : _) (after : _) → F.post level.now.read alloc tokens ask result after → Asked level.now.at ask tokens.now result after.now }
     ensures { Reads ((plain_in_of level.now.at.left (inner_of level.now.at) spot).reads tokens.old) result tokens.new }
 {
+    let _levels = level.levels();
     let inner = level.form(alloc, tokens, Part::Plain)?;
     expect(tokens, UNPAREN)?;
     level.postfixes(alloc, tokens, raised(inner.height, inner.form, spot))
@@ -384,7 +390,7 @@ fn plain_operand<F: Fn(Global, &mut Cursor<Token>, Ask) -> Result<Got, Or<Fault>
     if !begins(tokens, &COUNTED) {
         return of_plain(level, alloc, tokens);
     }
-    if level.at.left == 0 {
+    if level.levels() == 0 {
         return Err(Or::Fault(Fault::TooDeep));
     }
     of_counted(level, alloc, tokens)
@@ -416,6 +422,7 @@ fn signed<F: Fn(Global, &mut Cursor<Token>, Ask) -> Result<Got, Or<Fault>>>(
     ensures { Reads ((signed_grammar (inner_of level.now.at)).reads tokens.old) result tokens.new }
 {
     let token = take_one(tokens, &UNARY)?;
+    let _levels = level.levels();
     let inner = level.form(alloc, tokens, Part::Unary)?;
     Ok(one(alloc, token, inner)?)
 }
@@ -433,7 +440,7 @@ pub fn unary<F: Fn(Global, &mut Cursor<Token>, Ask) -> Result<Got, Or<Fault>>>(
     if !begins(tokens, &UNARY) {
         return operand(level, alloc, tokens);
     }
-    if level.at.left == 0 {
+    if level.levels() == 0 {
         return Err(Or::Fault(Fault::TooDeep));
     }
     signed(level, alloc, tokens)
@@ -452,7 +459,7 @@ pub fn plain_unary<F: Fn(Global, &mut Cursor<Token>, Ask) -> Result<Got, Or<Faul
     if !begins(tokens, &UNARY) {
         return plain_operand(level, alloc, tokens);
     }
-    if level.at.left == 0 {
+    if level.levels() == 0 {
         return Err(Or::Fault(Fault::TooDeep));
     }
     signed(level, alloc, tokens)
