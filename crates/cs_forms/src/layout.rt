@@ -1,0 +1,777 @@
+// Expressions and statements.
+
+ghost use Rattle.std.specs.Prelude.{◌≡◌, ◌++◌, OnOk, IfOk, map};
+ghost use Rattle.std.specs.List.{flat_map};
+ghost use Rattle.std.specs.String.{string_bytes};
+ghost use Rattle.cs_layout.specs.Pieces.{followed};
+ghost use Rattle.cs_layout.specs.Words.{fixed, listed};
+ghost use Rattle.cs_layout.specs.Layout.{indent, line, deeper as deeper_of, enclosed, arguments, braced, label_pieces, typed, tested, valued, maybe_name, is_minus_op as is_minus_of, signed_operand, cast_operand, action_laid, form_shown, syntax_laid, arg_laid, block_laid, catching_laid, section_laid};
+ghost use Rattle.cs_layout.specs.declared.fixed.Fixed.TheVariants.{Newline};
+
+use cs_layout::{
+    Fixed, binary_level, write_assign, write_binary, write_comma, write_fixed, write_literal,
+    write_name, write_params, write_path, write_ranks, write_type, write_type_name, write_unary,
+    write_way,
+};
+use cs_tree::{
+    Action, Arg, Block, Catching, Form, Name, Section, SwitchLabel, Syntax, TypeForm, UnaryOp,
+};
+use dc_base::NoMemory;
+use std::alloc::Global;
+
+const RELATIONAL: u8 = 7;
+
+const UNARY: u8 = 11;
+
+const CAST: u8 = 12;
+
+const NEW_ARRAY: u8 = 13;
+
+const PRIMARY: u8 = 14;
+
+/// How tightly an expression binds; a greater number binds tighter.
+fn level(form: &Form) -> u8
+    ensures { result ≡ (form_shown form.now).level }
+{
+    match form {
+        Form::Conditional { .. } => 0,
+        Form::Binary { op, .. } => binary_level(*op),
+        Form::Is { .. } | Form::As { .. } => RELATIONAL,
+        Form::Unary { .. } => UNARY,
+        Form::Cast { .. } => CAST,
+        Form::NewArray { .. } => NEW_ARRAY,
+        Form::Literal { .. }
+        | Form::Name { .. }
+        | Form::This { .. }
+        | Form::Member { .. }
+        | Form::Call { .. }
+        | Form::BaseMember { .. }
+        | Form::BaseCall { .. }
+        | Form::Global { .. }
+        | Form::GlobalCall { .. }
+        | Form::Index { .. }
+        | Form::New { .. }
+        | Form::Checked { .. }
+        | Form::Unchecked { .. }
+        | Form::Default { .. }
+        | Form::Lambda { .. } => PRIMARY,
+    }
+}
+
+fn is_minus(form: &Form) -> bool
+    ensures { result ≡ (form_shown form.now).is_minus }
+{
+    match form {
+        Form::Unary { op, .. } => is_minus_op(*op),
+        _ => false,
+    }
+}
+
+fn is_minus_op(op: UnaryOp) -> bool
+    ensures { result ≡ is_minus_of op }
+{
+    match op {
+        UnaryOp::Minus => true,
+        UnaryOp::Not | UnaryOp::Complement => false,
+    }
+}
+
+fn is_lambda(form: &Form) -> bool
+    ensures { result ≡ (form_shown form.now).is_lambda }
+{
+    match form {
+        Form::Lambda { .. } => true,
+        _ => false,
+    }
+}
+
+fn deeper(alloc: Global, margin: &str) -> Result<String, NoMemory>
+    ensures { IfOk result (λ text. string_bytes text ≡ deeper_of margin.now) }
+{
+    let mut text = String::from_str(alloc, margin)?;
+    text.push_str("    ")?;
+    Ok(text)
+}
+
+#[tactic(auto, using(cs_layout::proofs::Following::followed_append, cs_layout::proofs::Following::followed_nothing))]
+fn write_indent(out: &mut String, margin: &str) -> Result<(), NoMemory>
+    ensures { OnOk result (string_bytes out.new ≡ followed (string_bytes out.old) (indent margin.now)) }
+{
+    out.push_str(margin)?;
+    Ok(())
+}
+
+/// A line with a text that is the same in all trees.
+#[tactic(auto, using(cs_layout::proofs::Following::followed_append, cs_layout::proofs::Following::followed_nothing))]
+fn write_line(out: &mut String, part: Fixed, margin: &str) -> Result<(), NoMemory>
+    ensures { OnOk result (string_bytes out.new ≡ followed (string_bytes out.old) (line margin.now (fixed part))) }
+{
+    write_indent(out, margin)?;
+    write_fixed(out, part)?;
+    write_fixed(out, Fixed::Newline)
+}
+
+/// The beginning of a line.
+#[tactic(auto, using(cs_layout::proofs::Following::followed_append, cs_layout::proofs::Following::followed_nothing))]
+fn write_head(out: &mut String, part: Fixed, margin: &str) -> Result<(), NoMemory>
+    ensures { OnOk result (string_bytes out.new ≡ followed (string_bytes out.old) (indent margin.now ++ fixed part)) }
+{
+    write_indent(out, margin)?;
+    write_fixed(out, part)
+}
+
+/// The end of a line.
+#[tactic(auto, using(cs_layout::proofs::Following::followed_append, cs_layout::proofs::Following::followed_nothing))]
+fn write_end(out: &mut String, part: Fixed) -> Result<(), NoMemory>
+    ensures { OnOk result (string_bytes out.new ≡ followed (string_bytes out.old) (fixed part ++ fixed Newline)) }
+{
+    write_fixed(out, part)?;
+    write_fixed(out, Fixed::Newline)
+}
+
+#[tactic(auto, using(cs_layout::proofs::Following::followed_append, cs_layout::proofs::Following::followed_nothing))]
+fn write_typed(out: &mut String, ty: &TypeForm, name: &Name) -> Result<(), NoMemory>
+    ensures { OnOk result (string_bytes out.new ≡ followed (string_bytes out.old) (typed ty.now name.now)) }
+{
+    write_type(out, ty)?;
+    write_fixed(out, Fixed::Blank)?;
+    write_name(out, &name.text)
+}
+
+#[tactic(auto, using(cs_layout::proofs::Following::followed_append, cs_layout::proofs::Following::followed_nothing))]
+fn write_maybe_name(out: &mut String, name: &Option<Name>) -> Result<(), NoMemory>
+    ensures { OnOk result (string_bytes out.new ≡ followed (string_bytes out.old) (maybe_name name.now)) }
+{
+    match name {
+        None => Ok(()),
+        Some(name) => {
+            write_fixed(out, Fixed::Blank)?;
+            write_name(out, &name.text)
+        }
+    }
+}
+
+#[tactic(auto, using(cs_layout::proofs::Following::followed_append, cs_layout::proofs::Following::followed_nothing))]
+fn write_label(out: &mut String, label: &SwitchLabel, margin: &str) -> Result<(), NoMemory>
+    ensures { OnOk result (string_bytes out.new ≡ followed (string_bytes out.old) (label_pieces margin.now label.now)) }
+{
+    match label {
+        SwitchLabel::Case { literal, .. } => {
+            write_head(out, Fixed::Case, margin)?;
+            write_literal(out, literal)?;
+            write_end(out, Fixed::CaseEnd)
+        }
+        SwitchLabel::Default { .. } => write_line(out, Fixed::Default, margin),
+    }
+}
+
+#[tactic(auto, using(cs_layout::proofs::Following::followed_append, cs_layout::proofs::Following::followed_nothing))]
+fn write_labels(out: &mut String, labels: &[SwitchLabel], margin: &str) -> Result<(), NoMemory>
+    ensures { OnOk result (string_bytes out.new ≡ followed (string_bytes out.old) (flat_map (label_pieces margin.now) labels.now)) }
+{
+    for label in labels {
+        write_label(out, label, margin)?;
+    }
+    Ok(())
+}
+
+/// An expression, in parentheses or not.
+#[cycle(layout)]
+#[tactic(auto, using(cs_layout::proofs::Following::followed_append, cs_layout::proofs::Following::followed_nothing))]
+fn write_part(
+    alloc: Global,
+    out: &mut String,
+    form: &Form,
+    is_enclosed: bool,
+    margin: &str,
+) -> Result<(), NoMemory>
+    ensures { OnOk result (string_bytes out.new ≡ followed (string_bytes out.old) (enclosed is_enclosed ((form_shown form.now).pieces margin.now))) }
+{
+    if !is_enclosed {
+        return write_form(alloc, out, form, margin);
+    }
+    write_fixed(out, Fixed::Open)?;
+    write_form(alloc, out, form, margin)?;
+    write_fixed(out, Fixed::Close)
+}
+
+#[cycle(layout)]
+#[tactic(auto, using(cs_layout::proofs::Following::followed_append, cs_layout::proofs::Following::followed_nothing))]
+fn write_arg(alloc: Global, out: &mut String, arg: &Arg, margin: &str) -> Result<(), NoMemory>
+    ensures { OnOk result (string_bytes out.new ≡ followed (string_bytes out.old) (arg_laid arg.now margin.now)) }
+{
+    write_way(out, arg.way)?;
+    write_form(alloc, out, &arg.form, margin)
+}
+
+#[cycle(layout)]
+#[tactic(auto, using(cs_layout::proofs::Following::followed_append, cs_layout::proofs::Following::followed_nothing))]
+fn write_args(alloc: Global, out: &mut String, args: &[Arg], margin: &str) -> Result<(), NoMemory>
+    ensures { OnOk result (string_bytes out.new ≡ followed (string_bytes out.old) (listed (map (λ a. a margin.now) (map arg_laid args.now)))) }
+{
+    for (index, arg) in args.iter().enumerate() {
+        write_comma(out, index)?;
+        write_arg(alloc, out, arg, margin)?;
+    }
+    Ok(())
+}
+
+#[cycle(layout)]
+#[tactic(auto, using(cs_layout::proofs::Following::followed_append, cs_layout::proofs::Following::followed_nothing))]
+fn write_arguments(
+    alloc: Global,
+    out: &mut String,
+    args: &[Arg],
+    margin: &str,
+) -> Result<(), NoMemory>
+    ensures { OnOk result (string_bytes out.new ≡ followed (string_bytes out.old) (arguments (map arg_laid args.now) margin.now)) }
+{
+    write_fixed(out, Fixed::Open)?;
+    write_args(alloc, out, args, margin)?;
+    write_fixed(out, Fixed::Close)
+}
+
+/// An expression, whose statement stands behind this margin.
+#[cycle(layout)]
+#[tactic(auto, using(cs_layout::proofs::Following::followed_append, cs_layout::proofs::Following::followed_nothing))]
+pub fn write_form(
+    alloc: Global,
+    out: &mut String,
+    form: &Form,
+    margin: &str,
+) -> Result<(), NoMemory>
+    ensures { OnOk result (string_bytes out.new ≡ followed (string_bytes out.old) ((form_shown form.now).pieces margin.now)) }
+{
+    match form {
+        Form::Literal { literal, .. } => write_literal(out, literal),
+        Form::Name { text, .. } => write_name(out, text),
+        Form::This { .. } => write_fixed(out, Fixed::This),
+        Form::Member { object, name, .. } => {
+            write_part(
+                alloc,
+                out,
+                object.get(),
+                level(object.get()) < NEW_ARRAY,
+                margin,
+            )?;
+            write_fixed(out, Fixed::Dot)?;
+            write_name(out, &name.text)
+        }
+        Form::Call {
+            object,
+            name,
+            args,
+            ..
+        } => {
+            write_part(
+                alloc,
+                out,
+                object.get(),
+                level(object.get()) < NEW_ARRAY,
+                margin,
+            )?;
+            write_fixed(out, Fixed::Dot)?;
+            write_name(out, &name.text)?;
+            write_arguments(alloc, out, args.as_slice(), margin)
+        }
+        Form::BaseMember { name, .. } => {
+            write_fixed(out, Fixed::Base)?;
+            write_name(out, &name.text)
+        }
+        Form::BaseCall { name, args, .. } => {
+            write_fixed(out, Fixed::Base)?;
+            write_name(out, &name.text)?;
+            write_arguments(alloc, out, args.as_slice(), margin)
+        }
+        Form::Global { path, .. } => {
+            write_fixed(out, Fixed::Global)?;
+            write_path(out, path.items())
+        }
+        Form::GlobalCall { path, args, .. } => {
+            write_fixed(out, Fixed::Global)?;
+            write_path(out, path.items())?;
+            write_arguments(alloc, out, args.as_slice(), margin)
+        }
+        Form::Index { array, index, .. } => {
+            write_part(
+                alloc,
+                out,
+                array.get(),
+                level(array.get()) < PRIMARY,
+                margin,
+            )?;
+            write_fixed(out, Fixed::OpenIndex)?;
+            write_form(alloc, out, index.get(), margin)?;
+            write_fixed(out, Fixed::CloseIndex)
+        }
+        Form::New { class, args, .. } => {
+            write_fixed(out, Fixed::New)?;
+            write_type_name(out, class)?;
+            write_arguments(alloc, out, args.as_slice(), margin)
+        }
+        Form::NewArray {
+            element,
+            length,
+            ..
+        } => {
+            write_fixed(out, Fixed::New)?;
+            write_type_name(out, &element.name)?;
+            write_fixed(out, Fixed::OpenIndex)?;
+            write_form(alloc, out, length.get(), margin)?;
+            write_fixed(out, Fixed::CloseIndex)?;
+            write_ranks(out, element.ranks)
+        }
+        Form::Checked { inner, .. } => {
+            write_fixed(out, Fixed::Checked)?;
+            write_form(alloc, out, inner.get(), margin)?;
+            write_fixed(out, Fixed::Close)
+        }
+        Form::Unchecked { inner, .. } => {
+            write_fixed(out, Fixed::Unchecked)?;
+            write_form(alloc, out, inner.get(), margin)?;
+            write_fixed(out, Fixed::Close)
+        }
+        Form::Default { ty, .. } => {
+            write_fixed(out, Fixed::DefaultOf)?;
+            write_type(out, ty)?;
+            write_fixed(out, Fixed::Close)
+        }
+        Form::Lambda { params, block, .. } => {
+            write_fixed(out, Fixed::Open)?;
+            write_params(out, params.items())?;
+            write_fixed(out, Fixed::Arrow)?;
+            write_deeper(alloc, out, block, margin)?;
+            write_head(out, Fixed::CloseBrace, margin)
+        }
+        Form::Unary { op, operand, .. } => {
+            write_unary(out, *op)?;
+            write_operand(alloc, out, *op, operand.get(), margin)
+        }
+        Form::Cast { ty, operand, .. } => {
+            write_fixed(out, Fixed::Open)?;
+            write_type(out, ty)?;
+            write_fixed(out, Fixed::Close)?;
+            write_cast_operand(alloc, out, operand.get(), margin)
+        }
+        Form::Binary {
+            op,
+            left,
+            right,
+            ..
+        } => {
+            write_part(
+                alloc,
+                out,
+                left.get(),
+                level(left.get()) < binary_level(*op),
+                margin,
+            )?;
+            write_binary(out, *op)?;
+            write_part(
+                alloc,
+                out,
+                right.get(),
+                level(right.get()) <= binary_level(*op),
+                margin,
+            )
+        }
+        Form::Is { operand, ty, .. } => {
+            write_part(
+                alloc,
+                out,
+                operand.get(),
+                level(operand.get()) < RELATIONAL,
+                margin,
+            )?;
+            write_fixed(out, Fixed::Is)?;
+            write_type(out, ty)
+        }
+        Form::As { operand, ty, .. } => {
+            write_part(
+                alloc,
+                out,
+                operand.get(),
+                level(operand.get()) < RELATIONAL,
+                margin,
+            )?;
+            write_fixed(out, Fixed::As)?;
+            write_type(out, ty)
+        }
+        Form::Conditional {
+            test,
+            on_true,
+            on_false,
+            ..
+        } => {
+            write_part(alloc, out, test.get(), level(test.get()) < 1, margin)?;
+            write_fixed(out, Fixed::Question)?;
+            write_form(alloc, out, on_true.get(), margin)?;
+            write_fixed(out, Fixed::Otherwise)?;
+            write_form(alloc, out, on_false.get(), margin)
+        }
+    }
+}
+
+/// The operand of an operator. A minus sign may not stand directly behind another one.
+#[cycle(layout)]
+#[tactic(auto, using(cs_layout::proofs::Following::followed_append, cs_layout::proofs::Following::followed_nothing))]
+fn write_operand(
+    alloc: Global,
+    out: &mut String,
+    op: UnaryOp,
+    form: &Form,
+    margin: &str,
+) -> Result<(), NoMemory>
+    ensures { OnOk result (string_bytes out.new ≡ followed (string_bytes out.old) (signed_operand op (form_shown form.now) margin.now)) }
+{
+    let is_enclosed = level(form) < UNARY || is_minus_op(op) && is_minus(form);
+    write_part(alloc, out, form, is_enclosed, margin)
+}
+
+/// The operand of a cast. A lambda stands in parentheses there.
+#[cycle(layout)]
+#[tactic(auto, using(cs_layout::proofs::Following::followed_append, cs_layout::proofs::Following::followed_nothing))]
+fn write_cast_operand(
+    alloc: Global,
+    out: &mut String,
+    form: &Form,
+    margin: &str,
+) -> Result<(), NoMemory>
+    ensures { OnOk result (string_bytes out.new ≡ followed (string_bytes out.old) (cast_operand (form_shown form.now) margin.now)) }
+{
+    let is_enclosed = level(form) < CAST || is_lambda(form);
+    write_part(alloc, out, form, is_enclosed, margin)
+}
+
+/// What stands in a block, one level deeper than this margin.
+#[cycle(layout)]
+#[tactic(auto, using(cs_layout::proofs::Following::followed_append, cs_layout::proofs::Following::followed_nothing))]
+fn write_deeper(
+    alloc: Global,
+    out: &mut String,
+    block: &Block,
+    margin: &str,
+) -> Result<(), NoMemory>
+    ensures { OnOk result (string_bytes out.new ≡ followed (string_bytes out.old) (block_laid block.now (deeper_of margin.now))) }
+{
+    let inner = deeper(alloc, margin)?;
+    write_statements(alloc, out, block.stmts.as_slice(), inner.as_str())
+}
+
+#[cycle(layout)]
+#[tactic(auto, using(cs_layout::proofs::Following::followed_append, cs_layout::proofs::Following::followed_nothing))]
+fn write_statements(
+    alloc: Global,
+    out: &mut String,
+    stmts: &[Syntax],
+    margin: &str,
+) -> Result<(), NoMemory>
+    ensures { OnOk result (string_bytes out.new ≡ followed (string_bytes out.old) (flat_map (λ s. s margin.now) (map syntax_laid stmts.now))) }
+{
+    for stmt in stmts {
+        write_syntax(alloc, out, stmt, margin)?;
+    }
+    Ok(())
+}
+
+/// A block on lines of its own, behind this margin.
+#[cycle(layout)]
+#[tactic(auto, using(cs_layout::proofs::Following::followed_append, cs_layout::proofs::Following::followed_nothing))]
+pub fn write_block(
+    alloc: Global,
+    out: &mut String,
+    block: &Block,
+    margin: &str,
+) -> Result<(), NoMemory>
+    ensures { OnOk result (string_bytes out.new ≡ followed (string_bytes out.old) (braced (block_laid block.now) margin.now)) }
+{
+    write_line(out, Fixed::OpenBrace, margin)?;
+    write_deeper(alloc, out, block, margin)?;
+    write_line(out, Fixed::CloseBrace, margin)
+}
+
+/// What may be the step of a `for`.
+#[cycle(layout)]
+#[tactic(auto, using(cs_layout::proofs::Following::followed_append, cs_layout::proofs::Following::followed_nothing))]
+pub fn write_action(
+    alloc: Global,
+    out: &mut String,
+    action: &Action,
+    margin: &str,
+) -> Result<(), NoMemory>
+    ensures { OnOk result (string_bytes out.new ≡ followed (string_bytes out.old) (action_laid action.now margin.now)) }
+{
+    match action {
+        Action::Assign { place, value } => {
+            write_part(alloc, out, place, level(place) < NEW_ARRAY, margin)?;
+            write_fixed(out, Fixed::Equals)?;
+            write_form(alloc, out, value, margin)
+        }
+        Action::Compound { op, place, value } => {
+            write_part(alloc, out, place, level(place) < NEW_ARRAY, margin)?;
+            write_assign(out, *op)?;
+            write_form(alloc, out, value, margin)
+        }
+        Action::Invoke { call } => write_form(alloc, out, call, margin),
+    }
+}
+
+#[cycle(layout)]
+#[tactic(auto, using(cs_layout::proofs::Following::followed_append, cs_layout::proofs::Following::followed_nothing))]
+fn write_section(
+    alloc: Global,
+    out: &mut String,
+    section: &Section,
+    margin: &str,
+) -> Result<(), NoMemory>
+    ensures { OnOk result (string_bytes out.new ≡ followed (string_bytes out.old) (section_laid section.now margin.now)) }
+{
+    write_labels(out, section.labels.items(), margin)?;
+    write_block(alloc, out, &section.block, margin)
+}
+
+#[cycle(layout)]
+#[tactic(auto, using(cs_layout::proofs::Following::followed_append, cs_layout::proofs::Following::followed_nothing))]
+fn write_sections(
+    alloc: Global,
+    out: &mut String,
+    sections: &[Section],
+    margin: &str,
+) -> Result<(), NoMemory>
+    ensures { OnOk result (string_bytes out.new ≡ followed (string_bytes out.old) (flat_map (λ s. s (deeper_of margin.now)) (map section_laid sections.now))) }
+{
+    let inner = deeper(alloc, margin)?;
+    for section in sections {
+        write_section(alloc, out, section, inner.as_str())?;
+    }
+    Ok(())
+}
+
+#[cycle(layout)]
+#[tactic(auto, using(cs_layout::proofs::Following::followed_append, cs_layout::proofs::Following::followed_nothing))]
+fn write_catch(
+    alloc: Global,
+    out: &mut String,
+    catch: &Catching,
+    margin: &str,
+) -> Result<(), NoMemory>
+    ensures { OnOk result (string_bytes out.new ≡ followed (string_bytes out.old) (catching_laid catch.now margin.now)) }
+{
+    write_head(out, Fixed::Catch, margin)?;
+    write_type(out, &catch.ty)?;
+    write_maybe_name(out, &catch.name)?;
+    write_end(out, Fixed::Close)?;
+    write_block(alloc, out, &catch.block, margin)
+}
+
+#[cycle(layout)]
+#[tactic(auto, using(cs_layout::proofs::Following::followed_append, cs_layout::proofs::Following::followed_nothing))]
+fn write_catches(
+    alloc: Global,
+    out: &mut String,
+    catches: &[Catching],
+    margin: &str,
+) -> Result<(), NoMemory>
+    ensures { OnOk result (string_bytes out.new ≡ followed (string_bytes out.old) (flat_map (λ c. c margin.now) (map catching_laid catches.now))) }
+{
+    for catch in catches {
+        write_catch(alloc, out, catch, margin)?;
+    }
+    Ok(())
+}
+
+/// A line that begins with a keyword and ends with an expression in parentheses.
+#[cycle(layout)]
+#[tactic(auto, using(cs_layout::proofs::Following::followed_append, cs_layout::proofs::Following::followed_nothing))]
+fn write_tested(
+    alloc: Global,
+    out: &mut String,
+    head: Fixed,
+    form: &Form,
+    margin: &str,
+) -> Result<(), NoMemory>
+    ensures { OnOk result (string_bytes out.new ≡ followed (string_bytes out.old) (tested (fixed head) (form_shown form.now) margin.now)) }
+{
+    write_head(out, head, margin)?;
+    write_form(alloc, out, form, margin)?;
+    write_end(out, Fixed::Close)
+}
+
+/// A line with a keyword and an expression.
+#[cycle(layout)]
+#[tactic(auto, using(cs_layout::proofs::Following::followed_append, cs_layout::proofs::Following::followed_nothing))]
+fn write_value(
+    alloc: Global,
+    out: &mut String,
+    head: Fixed,
+    form: &Form,
+    margin: &str,
+) -> Result<(), NoMemory>
+    ensures { OnOk result (string_bytes out.new ≡ followed (string_bytes out.old) (valued (fixed head) (form_shown form.now) margin.now)) }
+{
+    write_head(out, head, margin)?;
+    write_form(alloc, out, form, margin)?;
+    write_end(out, Fixed::Semicolon)
+}
+
+/// A statement, with its margin and its newline.
+#[cycle(layout)]
+#[tactic(auto, using(cs_layout::proofs::Following::followed_append, cs_layout::proofs::Following::followed_nothing))]
+pub fn write_syntax(
+    alloc: Global,
+    out: &mut String,
+    stmt: &Syntax,
+    margin: &str,
+) -> Result<(), NoMemory>
+    ensures { OnOk result (string_bytes out.new ≡ followed (string_bytes out.old) (syntax_laid stmt.now margin.now)) }
+{
+    match stmt {
+        Syntax::Declare {
+            ty,
+            name,
+            value,
+            ..
+        } => {
+            write_indent(out, margin)?;
+            write_typed(out, ty, name)?;
+            write_fixed(out, Fixed::Equals)?;
+            write_form(alloc, out, value, margin)?;
+            write_end(out, Fixed::Semicolon)
+        }
+        Syntax::Act { action, .. } => {
+            write_indent(out, margin)?;
+            write_action(alloc, out, action, margin)?;
+            write_end(out, Fixed::Semicolon)
+        }
+        Syntax::Label { label, .. } => {
+            write_indent(out, margin)?;
+            write_name(out, label)?;
+            write_end(out, Fixed::LabelEnd)
+        }
+        Syntax::Goto { label, .. } => {
+            write_head(out, Fixed::Goto, margin)?;
+            write_name(out, label)?;
+            write_end(out, Fixed::Semicolon)
+        }
+        Syntax::Break { .. } => write_line(out, Fixed::Break, margin),
+        Syntax::Continue { .. } => write_line(out, Fixed::Continue, margin),
+        Syntax::Return { value: None, .. } => write_line(out, Fixed::ReturnNothing, margin),
+        Syntax::Return {
+            value: Some(value),
+            ..
+        } => write_value(alloc, out, Fixed::Return, value, margin),
+        Syntax::Throw { value: None, .. } => write_line(out, Fixed::Rethrow, margin),
+        Syntax::Throw {
+            value: Some(value),
+            ..
+        } => write_value(alloc, out, Fixed::Throw, value, margin),
+        Syntax::If {
+            test,
+            block,
+            otherwise: None,
+            ..
+        } => {
+            write_tested(alloc, out, Fixed::If, test, margin)?;
+            write_block(alloc, out, block, margin)
+        }
+        Syntax::If {
+            test,
+            block,
+            otherwise: Some(otherwise),
+            ..
+        } => {
+            write_tested(alloc, out, Fixed::If, test, margin)?;
+            write_block(alloc, out, block, margin)?;
+            write_line(out, Fixed::Else, margin)?;
+            write_block(alloc, out, otherwise, margin)
+        }
+        Syntax::While { test, block, .. } => {
+            write_tested(alloc, out, Fixed::While, test, margin)?;
+            write_block(alloc, out, block, margin)
+        }
+        Syntax::DoWhile { block, test, .. } => {
+            write_line(out, Fixed::Do, margin)?;
+            write_block(alloc, out, block, margin)?;
+            write_head(out, Fixed::While, margin)?;
+            write_form(alloc, out, test, margin)?;
+            write_end(out, Fixed::DoEnd)
+        }
+        Syntax::For {
+            test,
+            step,
+            block,
+            ..
+        } => {
+            write_head(out, Fixed::For, margin)?;
+            write_form(alloc, out, test, margin)?;
+            write_fixed(out, Fixed::Then)?;
+            write_action(alloc, out, step, margin)?;
+            write_end(out, Fixed::Close)?;
+            write_block(alloc, out, block, margin)
+        }
+        Syntax::Foreach {
+            ty,
+            name,
+            array,
+            block,
+            ..
+        } => {
+            write_head(out, Fixed::Foreach, margin)?;
+            write_typed(out, ty, name)?;
+            write_fixed(out, Fixed::In)?;
+            write_form(alloc, out, array, margin)?;
+            write_end(out, Fixed::Close)?;
+            write_block(alloc, out, block, margin)
+        }
+        Syntax::Using {
+            ty,
+            name,
+            value,
+            block,
+            ..
+        } => {
+            write_head(out, Fixed::Using, margin)?;
+            write_typed(out, ty, name)?;
+            write_fixed(out, Fixed::Equals)?;
+            write_form(alloc, out, value, margin)?;
+            write_end(out, Fixed::Close)?;
+            write_block(alloc, out, block, margin)
+        }
+        Syntax::Lock { object, block, .. } => {
+            write_tested(alloc, out, Fixed::Lock, object, margin)?;
+            write_block(alloc, out, block, margin)
+        }
+        Syntax::Switch {
+            value,
+            sections,
+            ..
+        } => {
+            write_tested(alloc, out, Fixed::Switch, value, margin)?;
+            write_line(out, Fixed::OpenBrace, margin)?;
+            write_sections(alloc, out, sections.as_slice(), margin)?;
+            write_line(out, Fixed::CloseBrace, margin)
+        }
+        Syntax::Try {
+            block,
+            catches,
+            finally: None,
+            ..
+        } => {
+            write_line(out, Fixed::Try, margin)?;
+            write_block(alloc, out, block, margin)?;
+            write_catches(alloc, out, catches.as_slice(), margin)
+        }
+        Syntax::Try {
+            block,
+            catches,
+            finally: Some(finally),
+            ..
+        } => {
+            write_line(out, Fixed::Try, margin)?;
+            write_block(alloc, out, block, margin)?;
+            write_catches(alloc, out, catches.as_slice(), margin)?;
+            write_line(out, Fixed::Finally, margin)?;
+            write_block(alloc, out, finally, margin)
+        }
+    }
+}
