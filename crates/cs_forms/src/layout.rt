@@ -93,7 +93,7 @@ fn deeper(alloc: Global, margin: &str) -> Result<String, NoMemory>
     Ok(text)
 }
 
-#[tactic(auto, using(cs_layout::proofs::Following::followed_append, cs_layout::proofs::Following::followed_nothing))]
+#[tactic(auto, unfolding(cs_layout::specs::Pieces::followed, cs_layout::specs::Layout::indent))]
 fn write_indent(out: &mut String, margin: &str) -> Result<(), NoMemory>
     ensures { OnOk result (string_bytes out.new ≡ followed (string_bytes out.old) (indent margin.now)) }
 {
