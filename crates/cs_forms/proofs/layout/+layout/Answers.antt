@@ -1,4 +1,7 @@
-use Rattle.cs_layout.specs.Layout.{arg_laid, syntax_laid, catching_laid}
+use Rattle.std.proofs.Common.{rules, ◌≡◌, ◌∙◌, ap}
+use Rattle.std.specs.String.{string_bytes}
+use Rattle.cs_layout.specs.Pieces.{followed}
+use Rattle.cs_layout.specs.Layout.{deeper, arg_laid, syntax_laid, catching_laid, section_laid}
 use Rattle.cs_layout.proofs.Following.{listed_laid_written, laid_item_written}
 use Rattle.cs_forms.proofs.layout.+layout.Goals as goal
 
@@ -16,3 +19,10 @@ pub write_catches-loop-catch-preserved : goal.write_catches-loop-catch-preserved
 write_catches-loop-catch-preserved m c =
     laid_item_written catching_laid (λ k. k c.args.margin.now) _ _ _ c.args.catches.now c.loop-catch.catch-index c.catch-item.result c.loop-catch-test.true c.catch-item.is
     c.loop-catch.invariant c.in_ok-write_catch.ensures
+
+pub write_sections-loop-section-preserved : goal.write_sections-loop-section-preserved
+write_sections-loop-section-preserved m c =
+    let inner : c.as_str.result.now ≡ deeper c.args.margin.now = search rules in
+    let here = ap (λ d. followed (string_bytes c.loop-section.out) (section_laid c.section-item.result d)) inner in
+    laid_item_written section_laid (λ s. s (deeper c.args.margin.now)) _ _ _ c.args.sections.now c.loop-section.section-index c.section-item.result c.loop-section-test.true
+    c.section-item.is c.loop-section.invariant (c.in_ok-write_section.ensures ∙ here)
