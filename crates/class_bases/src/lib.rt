@@ -6,6 +6,8 @@ mod bound;
 mod member;
 mod needed;
 mod system;
+#[cfg(test)]
+mod tests;
 
 pub use bound::bases_are_there;
 pub use needed::core_is_there;

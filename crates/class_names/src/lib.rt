@@ -8,6 +8,8 @@
 
 mod full;
 mod space;
+#[cfg(test)]
+mod tests;
 mod unique;
 
 pub use full::full_name;

@@ -1,6 +1,6 @@
 // A text as tokens, up to its end or the first place where none stands.
 
-ghost use Rattle.std.specs.Prelude.{IfOk};
+ghost use Rattle.std.specs.Prelude.{◌≤◌, ◌^◌, length, IfOk};
 ghost use Rattle.std.specs.Str.{chars};
 ghost use Rattle.cs_lex.specs.Lexed.{IsCut};
 
@@ -21,11 +21,9 @@ pub struct Tokens<'a> {
 
 /// Cuts a text into tokens, as far as they go.
 pub fn cut<'a>(alloc: Global, source: &'a str) -> Result<Tokens<'a>, NoMemory>
+    requires { length source.now ≤ 2 ^ 31 }
     ensures { IfOk result (λ cut. IsCut (chars source.now) cut) }
 {
-    if source.len() >= u32::MAX as usize {
-        return Err(NoMemory);
-    }
     let mut tokens = Vec::new(alloc);
     let mut left = behind_gap(source);
     let mut place = advanced(before(source, left), 1, 1);

@@ -6,8 +6,8 @@
 //! ```
 //!
 //! What a token is stands in the crate cs_token. Here a text is gone through once. A token owns nothing, so a list of them takes
-//! 32 bytes a token. Lines and columns count from 1, columns in characters; a newline ends a line. A text of 4 GiB or more is
-//! answered by want of memory.
+//! 32 bytes a token. Lines and columns count from 1, columns in characters; a newline ends a line. A text has at
+//! most 2^31 bytes, so that the place of a token is in 32 bits.
 #![tactic(auto)]
 
 mod bytes;

@@ -1,6 +1,6 @@
 // A whole text as tokens, or the place where none stands.
 
-ghost use Rattle.std.specs.Prelude.{IfOk, IfErr};
+ghost use Rattle.std.specs.Prelude.{◌≤◌, ◌^◌, length, IfOk, IfErr};
 ghost use Rattle.std.specs.Str.{chars};
 ghost use Rattle.cs_lex.specs.Lexed.{IsLexed, TellsStop, HasOneAnswer};
 
@@ -28,6 +28,7 @@ pub struct Lexed<'a> {
 
 /// Cuts a whole text into tokens.
 pub fn lex<'a>(alloc: Global, source: &'a str) -> Result<Lexed<'a>, Or<LexFault>>
+    requires { length source.now ≤ 2 ^ 31 }
     ensures ok { IfOk result (λ lexed. IsLexed (chars source.now) lexed) }
     ensures fault { IfErr result (TellsStop (chars source.now)) }
 {

@@ -1,5 +1,5 @@
 -- The body of the tests is typed and definitely assigned.
-use Rattle.std.proofs.Common.{◌≡◌, List, [], ◌∷◌, All, false, refl, arith}
+use Rattle.std.proofs.Common.{◌≡◌, List, [], ◌∷◌, All, None, false, refl, arith}
 use Rattle.std.proofs.lemmas.List.Elements.{All-cons}
 use Rattle.cs_body.specs.declared.body.Home.{Home}
 use Rattle.cs_body.specs.declared.body.Var.{Var as Variable}
@@ -28,11 +28,13 @@ slots =
     (All-cons IsIntLocal (int_var SlotVar) (int_var SlotVar ∷ []) int_slot
     (All-cons IsIntLocal (int_var SlotVar) [] int_slot no_slots))
 
-pub flat_typed : (home : Home) (op : BinaryOp) → home.result ≡ int_ty → home.instance ≡ false → IsArithmetic op →
+pub flat_typed : (home : Home) (op : BinaryOp) → home.owner ≡ None → home.instance ≡ false → home.constructs ≡ false → home.result ≡ int_ty → IsArithmetic op →
     IsLoneTyped (record { home = home; vars = lone_vars; stmts = flat_stmts op })
-flat_typed home op result_is static is = record {
-  result_int = result_is;
+flat_typed home op no_owner static no_constructor result_is is = record {
+  no_owner = no_owner;
   static_method = static;
+  no_constructor = no_constructor;
+  result_int = result_is;
   vars = (int_param, int_param, int_param, int_param, slots);
   stmts = typed.more _ _ (typed.declares 4 (expr.Var 0) (omega arith) (omega arith) (typed.variable 0 (omega arith)))
       (typed.more _ _ (typed.declares 5 (expr.Var 1) (omega arith) (omega arith) (typed.variable 1 (omega arith)))
@@ -49,10 +51,10 @@ flat_assigned op =
     (reads.binary op false (expr.Var 4) (expr.Var 5) (reads.variable 4 (1, omega arith, refl)) (reads.variable 5 (0, omega arith, refl)))
     (reads.returns _ (expr.Var 6) [] (reads.variable 6 (0, omega arith, refl)))))
 
-pub body_typed : (home : Home) (vars : List Variable) (stmts : List Stmt) (op : BinaryOp) → home.result ≡ int_ty → home.instance ≡ false → vars ≡ lone_vars →
+pub body_typed : (home : Home) (vars : List Variable) (stmts : List Stmt) (op : BinaryOp) → home.owner ≡ None → home.instance ≡ false → home.constructs ≡ false → home.result ≡ int_ty → vars ≡ lone_vars →
     stmts ≡ flat_stmts op → IsArithmetic op → IsLoneTyped (record { home = home; vars = vars; stmts = stmts })
-body_typed home vars stmts op result_is static same_vars same_stmts is =
-    rw (same_vars, same_stmts) (flat_typed home op result_is static is)
+body_typed home vars stmts op no_owner static no_constructor result_is same_vars same_stmts is =
+    rw (same_vars, same_stmts) (flat_typed home op no_owner static no_constructor result_is is)
 
 pub body_assigned : (vars : List Variable) (stmts : List Stmt) (op : BinaryOp) → vars ≡ lone_vars → stmts ≡ flat_stmts op → RunsAssigned (params_from 0 vars) stmts
 body_assigned vars stmts op same_vars same_stmts = rw (same_vars, same_stmts) (flat_assigned op)

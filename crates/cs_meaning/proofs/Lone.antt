@@ -41,7 +41,7 @@ operator_gives op l r σ x y typed.mul left right = (int_wrap w32 (x *ℤ y), Gi
 
 expr_gives : (n : ℕ) (vars : List ℕ) (e : Expr) (σ : State) → typed.IsIntExpr n e → reads.ReadsAssigned vars e → Covers vars σ → (x : ℤ) × Gives e σ x
 unfolding hidden-the_row-Expr-0 hidden
-expr_gives n vars e σ (typed.literal i) (reads.literal l) covers = (i, Gives-literal i σ)
+expr_gives n vars e σ (typed.literal i fits) (reads.literal l) covers = (i, Gives-literal i σ)
 expr_gives n vars e σ (typed.variable v below) (reads.variable v' read) covers =
     let found = covers.value v read in
     (found.0, Gives-var v σ found.0 found.1)

@@ -16,7 +16,7 @@ use Rattle.cs_body.specs.declared.tree.Expr.{Expr}
 use Rattle.cs_body.specs.declared.tree.Expr.TheVariants as expr
 use Rattle.cs_body.specs.declared.tree.Stmt.{Stmt}
 use Rattle.cs_body.specs.declared.tree.Stmt.TheVariants as stmt
-use Rattle.cs_meaning.specs.Ran.{gives, done, Meaning, end_of, valued, value_in, assigned, Part, after, runs, entry, again}
+use Rattle.cs_meaning.specs.Ran.{done, Meaning, end_of, valued, value_in, assigned, Part, after, runs, entry, again}
 use Rattle.cs_meaning.specs.Laws.{Gives, RunsTo}
 use Rattle.cs_meaning.specs.Meaning.{Node, int_result, expr_meaning, stmt_meaning, block_meaning, initial, CsReturns}
 use Rattle.cs_meaning.proofs.Equations.{expr_literal, expr_var, expr_binary, stmt_decl, stmt_return}

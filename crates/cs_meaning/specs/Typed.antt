@@ -1,6 +1,7 @@
--- The typed lone bodies: a static method of four ints, whose result is an int.
+-- The typed lone bodies: a static method of four ints that no type declares, whose result is an int.
 use Rattle.std.specs.Prelude.{◌≡◌, ◌≢◌, ℕ, ◌<◌, ◌≤◌, false, List, [], ◌∷◌, length, All, ℤ}
-use Rattle.std.specs.Prelude.{Some}
+use Rattle.std.specs.Prelude.{None, Some, FitsSigned}
+use Rattle.std.specs.Int.{w32}
 use Rattle.dc_base.specs.declared.ty.Ty.{Ty}
 use Rattle.dc_base.specs.declared.ty.Core.TheVariants.{Prim}
 use Rattle.dc_base.specs.declared.ty.Prim_.TheVariants.{I4}
@@ -38,9 +39,10 @@ pub data IsArithmetic : BinaryOp → Type 0 where
   sub : IsArithmetic Sub
   mul : IsArithmetic Mul
 
--- an expression of type int over so many int variables: literals, variables, and unchecked operators on ints (ECMA-334, 12.10)
+-- an expression of type int over so many int variables: literals of 32 bits, variables, and unchecked
+-- operators on ints (ECMA-334, 8.3.6, 12.10)
 pub data IsIntExpr (vars : ℕ) : Expr → Type 0 where
-  literal : (i : ℤ) → IsIntExpr vars (expr.Literal (Int i))
+  literal : (i : ℤ) → FitsSigned w32 i → IsIntExpr vars (expr.Literal (Int i))
   variable : (v : ℕ) → v < vars → IsIntExpr vars (expr.Var v)
   binary : (op : BinaryOp) (l r : Expr) → IsArithmetic op → IsIntExpr vars l → IsIntExpr vars r → IsIntExpr vars (expr.Binary op false l r)
 
@@ -55,7 +57,9 @@ pub data AreLoneStmts (vars : ℕ) : List Stmt → Type 0 where
   more : (s : Stmt) (rest : List Stmt) → IsLoneStmt vars s → AreLoneStmts vars rest → AreLoneStmts vars (s ∷ rest)
 
 pub record IsLoneTyped (body : Body) : Type 0 where
-  pub result_int : body.home.result ≡ int_ty
+  pub no_owner : body.home.owner ≡ None
   pub static_method : body.home.instance ≡ false
+  pub no_constructor : body.home.constructs ≡ false
+  pub result_int : body.home.result ≡ int_ty
   pub vars : AreLoneVars body.vars
   pub stmts : AreLoneStmts (length body.vars) body.stmts

@@ -47,7 +47,7 @@ declarations_within (e ∷ code) next slots =
 
 -- a flat form is an int over as many variables
 flat_expr : (vars next : ℕ) (e : Expr) → next ≤ vars → IsFlatForm next e → IsIntExpr vars e
-flat_expr vars next e le (number n fits) = typed.literal n
+flat_expr vars next e le (number n fits) = typed.literal n fits
 flat_expr vars next e le (variable x below) = typed.variable x (omega arith)
 flat_expr vars next e le (operator op x y is left right) =
     typed.binary op (expr.Var x) (expr.Var y) is (typed.variable x (omega arith)) (typed.variable y (omega arith))
@@ -81,8 +81,10 @@ length-lone_vars role n = let e : length (replicate n (int_var role)) ≡ n = se
 -- a body of flat statements is typed
 pub flat_typed : (role : Role) → role ≢ Param → (stmts : List Stmt) → AreFlat 4 stmts → IsLoneTyped (lone_body role stmts)
 flat_typed role apart stmts flat = record {
-  result_int = refl;
+  no_owner = refl;
   static_method = refl;
+  no_constructor = refl;
+  result_int = refl;
   vars = lone_vars_are role apart (declarations stmts);
   stmts =
       let e = length-lone_vars role (declarations stmts) in

@@ -10,7 +10,7 @@ pub data Token : Type 0 where
   Number : ℕ → Token
   Sign : ℕ → Token
 
--- space, tab, newline and return stand between tokens (6.3.4)
+-- space, tab, newline and return stand between tokens (6.3.2, 6.3.4)
 abbrev pub is_blank : ℕ → Bool
 is_blank c = c == 32 || c == 9 || c == 10 || c == 13
 

@@ -10,7 +10,7 @@ pub loop-token-init : goal.loop-token-init
 loop-token-init c =
     let source = c.args.source.now in
     let left = c.behind_gap-left.result.now in
-    let small : length source + 1 < 2 ^ 32 = omega arith in
+    let small : length source + 1 < 2 ^ 32 = omega (arith, c.requires) in
     let at = at_start source c.before-2.result.now left c.advanced-place.result small c.advanced-place.ensures.text c.before-2.ensures c.advanced-place.ensures.value in
     (search rules, at, rw c.new-tokens.ensures.items (reached_none (chars source) (chars left) c.behind_gap-left.ensures.rest))
 

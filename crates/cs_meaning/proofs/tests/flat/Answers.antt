@@ -4,7 +4,7 @@ use Rattle.cs_meaning.proofs.tests.flat.Goals as goal
 
 pub returns-clause-typed : goal.returns-clause-typed
 returns-clause-typed c =
-    body_typed _ c.in_ok-variables.field-0 c.in_ok-flat_stmts.field-0 c.args.op c.int.ensures refl (search rules) (search rules) c.requires
+    body_typed _ c.in_ok-variables.field-0 c.in_ok-flat_stmts.field-0 c.args.op refl refl refl c.int.ensures (search rules) (search rules) c.requires
 
 pub returns-clause-assigned : goal.returns-clause-assigned
 returns-clause-assigned c =

@@ -1,0 +1,2 @@
+-- Inner facts: which members are told as nameless.
+pub mod Named

@@ -1,0 +1,4 @@
+-- Inner facts: what the code goes by.
+pub mod Pairs
+pub mod Known
+pub mod Open

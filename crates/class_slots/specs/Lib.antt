@@ -1,0 +1,2 @@
+-- What a reader must believe: that each member's slot is told.
+pub mod Slots
