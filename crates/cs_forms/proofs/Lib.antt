@@ -1,1 +1,2 @@
 -- The lemmas stand in cs_layout.
+pub mod Chains

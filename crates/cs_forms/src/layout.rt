@@ -4,9 +4,9 @@ ghost use Rattle.std.specs.Prelude.{◌≡◌, ◌++◌, OnOk, IfOk, map};
 ghost use Rattle.std.specs.List.{flat_map};
 ghost use Rattle.std.specs.String.{string_bytes};
 ghost use Rattle.cs_layout.specs.Pieces.{followed};
-ghost use Rattle.cs_layout.specs.Words.{fixed, listed};
-ghost use Rattle.cs_layout.specs.Layout.{indent, line, deeper as deeper_of, enclosed, arguments, braced, label_pieces, typed, tested, valued, maybe_name, is_minus_op as is_minus_of, signed_operand, cast_operand, action_laid, form_shown, syntax_laid, arg_laid, block_laid, catching_laid, section_laid};
-ghost use Rattle.cs_layout.specs.declared.fixed.Fixed.TheVariants.{Newline};
+ghost use Rattle.cs_layout.specs.Words.{fixed, listed, name as name_pieces, path as path_pieces, ranks as rank_pieces, type_without_ranks, type_pieces, param_pieces, unary_pieces, binary_pieces, binary_level as level_of_binary, conditional_level, relational_level, new_array_level, primary_level};
+ghost use Rattle.cs_layout.specs.Layout.{at_least, indent, line, deeper as deeper_of, enclosed, arguments, braced, label_pieces, typed, tested, valued, maybe_name, is_minus_op as is_minus_of, signed_operand, cast_operand, action_laid, form_shown, syntax_laid, arg_laid, block_laid, catching_laid, section_laid};
+ghost use Rattle.cs_layout.specs.declared.fixed.Fixed.TheVariants.{Arrow, Base, Close, CloseBrace, CloseIndex, DefaultOf, Dot, Global as GlobalPart, New, Newline, Open, OpenIndex, Otherwise, Question};
 
 use cs_layout::{
     Fixed, binary_level, write_assign, write_binary, write_comma, write_fixed, write_literal,
@@ -14,9 +14,10 @@ use cs_layout::{
     write_way,
 };
 use cs_tree::{
-    Action, Arg, Block, Catching, Form, Name, Section, SwitchLabel, Syntax, TypeForm, UnaryOp,
+    Action, Arg, BinaryOp, Block, Catching, Form, Name, Param, Section, SwitchLabel, Syntax,
+    TypeForm, TypeName, UnaryOp,
 };
-use dc_base::NoMemory;
+use dc_base::{NoMemory, Text};
 use std::alloc::Global;
 
 const RELATIONAL: u8 = 7;
@@ -231,6 +232,330 @@ fn write_arguments(
     write_fixed(out, Fixed::Close)
 }
 
+/// An expression, in parentheses where it binds less than this.
+#[cycle(layout)]
+#[tactic(auto, using(cs_layout::proofs::Following::followed_append, cs_layout::proofs::Following::followed_nothing))]
+fn write_least(
+    alloc: Global,
+    out: &mut String,
+    form: &Form,
+    least: u8,
+    margin: &str,
+) -> Result<(), NoMemory>
+    ensures { OnOk result (string_bytes out.new ≡ followed (string_bytes out.old) (at_least least (form_shown form.now) margin.now)) }
+{
+    write_part(alloc, out, form, level(form) < least, margin)?;
+    Ok(())
+}
+
+#[cycle(layout)]
+#[tactic(auto, using(cs_layout::proofs::Following::followed_append, cs_layout::proofs::Following::followed_nothing))]
+fn write_member(
+    alloc: Global,
+    out: &mut String,
+    object: &Form,
+    name: &Name,
+    margin: &str,
+) -> Result<(), NoMemory>
+    ensures { OnOk result (string_bytes out.new ≡ followed (string_bytes out.old) (at_least new_array_level (form_shown object.now) margin.now ++ (fixed Dot ++ name_pieces name.now.text))) }
+{
+    write_least(alloc, out, object, NEW_ARRAY, margin)?;
+    write_fixed(out, Fixed::Dot)?;
+    write_name(out, &name.text)?;
+    Ok(())
+}
+
+#[cycle(layout)]
+#[tactic(auto, using(cs_layout::proofs::Following::followed_append, cs_layout::proofs::Following::followed_nothing))]
+fn write_named_call(
+    alloc: Global,
+    out: &mut String,
+    name: &Name,
+    args: &[Arg],
+    margin: &str,
+) -> Result<(), NoMemory>
+    ensures { OnOk result (string_bytes out.new ≡ followed (string_bytes out.old) (name_pieces name.now.text ++ arguments (map arg_laid args.now) margin.now)) }
+{
+    write_name(out, &name.text)?;
+    write_arguments(alloc, out, args, margin)?;
+    Ok(())
+}
+
+#[cycle(layout)]
+#[tactic(auto, using(cs_layout::proofs::Following::followed_append, cs_layout::proofs::Following::followed_nothing))]
+fn write_call(
+    alloc: Global,
+    out: &mut String,
+    object: &Form,
+    name: &Name,
+    args: &[Arg],
+    margin: &str,
+) -> Result<(), NoMemory>
+    ensures { OnOk result (string_bytes out.new ≡ followed (string_bytes out.old) (at_least new_array_level (form_shown object.now) margin.now ++ (fixed Dot ++ (name_pieces name.now.text ++ arguments (map arg_laid args.now) margin.now)))) }
+{
+    write_least(alloc, out, object, NEW_ARRAY, margin)?;
+    write_fixed(out, Fixed::Dot)?;
+    write_named_call(alloc, out, name, args, margin)?;
+    Ok(())
+}
+
+#[tactic(auto, using(cs_layout::proofs::Following::followed_append, cs_layout::proofs::Following::followed_nothing))]
+fn write_base_member(out: &mut String, name: &Name) -> Result<(), NoMemory>
+    ensures { OnOk result (string_bytes out.new ≡ followed (string_bytes out.old) (fixed Base ++ name_pieces name.now.text)) }
+{
+    write_fixed(out, Fixed::Base)?;
+    write_name(out, &name.text)?;
+    Ok(())
+}
+
+#[cycle(layout)]
+#[tactic(auto, using(cs_layout::proofs::Following::followed_append, cs_layout::proofs::Following::followed_nothing))]
+fn write_base_call(
+    alloc: Global,
+    out: &mut String,
+    name: &Name,
+    args: &[Arg],
+    margin: &str,
+) -> Result<(), NoMemory>
+    ensures { OnOk result (string_bytes out.new ≡ followed (string_bytes out.old) (fixed Base ++ (name_pieces name.now.text ++ arguments (map arg_laid args.now) margin.now))) }
+{
+    write_fixed(out, Fixed::Base)?;
+    write_named_call(alloc, out, name, args, margin)?;
+    Ok(())
+}
+
+#[tactic(auto, using(cs_layout::proofs::Following::followed_append, cs_layout::proofs::Following::followed_nothing))]
+fn write_global(out: &mut String, path: &[Text]) -> Result<(), NoMemory>
+    ensures { OnOk result (string_bytes out.new ≡ followed (string_bytes out.old) (fixed GlobalPart ++ path_pieces path.now)) }
+{
+    write_fixed(out, Fixed::Global)?;
+    write_path(out, path)?;
+    Ok(())
+}
+
+#[cycle(layout)]
+#[tactic(auto, using(cs_layout::proofs::Following::followed_append, cs_layout::proofs::Following::followed_nothing))]
+fn write_global_call(
+    alloc: Global,
+    out: &mut String,
+    path: &[Text],
+    args: &[Arg],
+    margin: &str,
+) -> Result<(), NoMemory>
+    ensures { OnOk result (string_bytes out.new ≡ followed (string_bytes out.old) (fixed GlobalPart ++ (path_pieces path.now ++ arguments (map arg_laid args.now) margin.now))) }
+{
+    write_fixed(out, Fixed::Global)?;
+    write_path(out, path)?;
+    write_arguments(alloc, out, args, margin)?;
+    Ok(())
+}
+
+#[cycle(layout)]
+#[tactic(auto, using(cs_layout::proofs::Following::followed_append, cs_layout::proofs::Following::followed_nothing))]
+fn write_indexed(
+    alloc: Global,
+    out: &mut String,
+    array: &Form,
+    index: &Form,
+    margin: &str,
+) -> Result<(), NoMemory>
+    ensures { OnOk result (string_bytes out.new ≡ followed (string_bytes out.old) (at_least primary_level (form_shown array.now) margin.now ++ (fixed OpenIndex ++ ((form_shown index.now).pieces margin.now ++ fixed CloseIndex)))) }
+{
+    write_least(alloc, out, array, PRIMARY, margin)?;
+    write_fixed(out, Fixed::OpenIndex)?;
+    write_form(alloc, out, index, margin)?;
+    write_fixed(out, Fixed::CloseIndex)?;
+    Ok(())
+}
+
+#[cycle(layout)]
+#[tactic(auto, using(cs_layout::proofs::Following::followed_append, cs_layout::proofs::Following::followed_nothing))]
+fn write_new(
+    alloc: Global,
+    out: &mut String,
+    class: &TypeName,
+    args: &[Arg],
+    margin: &str,
+) -> Result<(), NoMemory>
+    ensures { OnOk result (string_bytes out.new ≡ followed (string_bytes out.old) (fixed New ++ (type_without_ranks class.now ++ arguments (map arg_laid args.now) margin.now))) }
+{
+    write_fixed(out, Fixed::New)?;
+    write_type_name(out, class)?;
+    write_arguments(alloc, out, args, margin)?;
+    Ok(())
+}
+
+#[cycle(layout)]
+#[tactic(auto, using(cs_layout::proofs::Following::followed_append, cs_layout::proofs::Following::followed_nothing))]
+fn write_length(
+    alloc: Global,
+    out: &mut String,
+    length: &Form,
+    ranks: u32,
+    margin: &str,
+) -> Result<(), NoMemory>
+    ensures { OnOk result (string_bytes out.new ≡ followed (string_bytes out.old) (fixed OpenIndex ++ ((form_shown length.now).pieces margin.now ++ (fixed CloseIndex ++ rank_pieces ranks)))) }
+{
+    write_fixed(out, Fixed::OpenIndex)?;
+    write_form(alloc, out, length, margin)?;
+    write_fixed(out, Fixed::CloseIndex)?;
+    write_ranks(out, ranks)?;
+    Ok(())
+}
+
+#[cycle(layout)]
+#[tactic(auto, using(cs_layout::proofs::Following::followed_append, cs_layout::proofs::Following::followed_nothing))]
+fn write_new_array(
+    alloc: Global,
+    out: &mut String,
+    element: &TypeForm,
+    length: &Form,
+    margin: &str,
+) -> Result<(), NoMemory>
+    ensures { OnOk result (string_bytes out.new ≡ followed (string_bytes out.old) (fixed New ++ (type_without_ranks element.now.name ++ (fixed OpenIndex ++ ((form_shown length.now).pieces margin.now ++ (fixed CloseIndex ++ rank_pieces element.now.ranks)))))) }
+{
+    write_fixed(out, Fixed::New)?;
+    write_type_name(out, &element.name)?;
+    write_length(alloc, out, length, element.ranks, margin)?;
+    Ok(())
+}
+
+#[cycle(layout)]
+#[tactic(auto, using(cs_layout::proofs::Following::followed_append, cs_layout::proofs::Following::followed_nothing))]
+fn write_within(
+    alloc: Global,
+    out: &mut String,
+    head: Fixed,
+    form: &Form,
+    margin: &str,
+) -> Result<(), NoMemory>
+    ensures { OnOk result (string_bytes out.new ≡ followed (string_bytes out.old) (fixed head ++ ((form_shown form.now).pieces margin.now ++ fixed Close))) }
+{
+    write_fixed(out, head)?;
+    write_form(alloc, out, form, margin)?;
+    write_fixed(out, Fixed::Close)?;
+    Ok(())
+}
+
+#[tactic(auto, using(cs_layout::proofs::Following::followed_append, cs_layout::proofs::Following::followed_nothing))]
+fn write_default(out: &mut String, ty: &TypeForm) -> Result<(), NoMemory>
+    ensures { OnOk result (string_bytes out.new ≡ followed (string_bytes out.old) (fixed DefaultOf ++ (type_pieces ty.now ++ fixed Close))) }
+{
+    write_fixed(out, Fixed::DefaultOf)?;
+    write_type(out, ty)?;
+    write_fixed(out, Fixed::Close)?;
+    Ok(())
+}
+
+#[cycle(layout)]
+#[tactic(auto, using(cs_layout::proofs::Following::followed_append, cs_layout::proofs::Following::followed_nothing))]
+fn write_lambda(
+    alloc: Global,
+    out: &mut String,
+    params: &[Param],
+    block: &Block,
+    margin: &str,
+) -> Result<(), NoMemory>
+    ensures { OnOk result (string_bytes out.new ≡ followed (string_bytes out.old) (fixed Open ++ (listed (map param_pieces params.now) ++ (fixed Arrow ++ (block_laid block.now (deeper_of margin.now) ++ (indent margin.now ++ fixed CloseBrace)))))) }
+{
+    write_fixed(out, Fixed::Open)?;
+    write_params(out, params)?;
+    write_fixed(out, Fixed::Arrow)?;
+    write_deeper(alloc, out, block, margin)?;
+    write_head(out, Fixed::CloseBrace, margin)?;
+    Ok(())
+}
+
+#[cycle(layout)]
+#[tactic(auto, using(cs_layout::proofs::Following::followed_append, cs_layout::proofs::Following::followed_nothing))]
+fn write_signed(
+    alloc: Global,
+    out: &mut String,
+    op: UnaryOp,
+    operand: &Form,
+    margin: &str,
+) -> Result<(), NoMemory>
+    ensures { OnOk result (string_bytes out.new ≡ followed (string_bytes out.old) (unary_pieces op ++ signed_operand op (form_shown operand.now) margin.now)) }
+{
+    write_unary(out, op)?;
+    write_operand(alloc, out, op, operand, margin)?;
+    Ok(())
+}
+
+#[cycle(layout)]
+#[tactic(auto, using(cs_layout::proofs::Following::followed_append, cs_layout::proofs::Following::followed_nothing))]
+fn write_cast(
+    alloc: Global,
+    out: &mut String,
+    ty: &TypeForm,
+    operand: &Form,
+    margin: &str,
+) -> Result<(), NoMemory>
+    ensures { OnOk result (string_bytes out.new ≡ followed (string_bytes out.old) (fixed Open ++ (type_pieces ty.now ++ (fixed Close ++ cast_operand (form_shown operand.now) margin.now)))) }
+{
+    write_fixed(out, Fixed::Open)?;
+    write_type(out, ty)?;
+    write_fixed(out, Fixed::Close)?;
+    write_cast_operand(alloc, out, operand, margin)?;
+    Ok(())
+}
+
+#[cycle(layout)]
+#[tactic(auto, using(cs_layout::proofs::Following::followed_append, cs_layout::proofs::Following::followed_nothing))]
+fn write_two(
+    alloc: Global,
+    out: &mut String,
+    op: BinaryOp,
+    left: &Form,
+    right: &Form,
+    margin: &str,
+) -> Result<(), NoMemory>
+    ensures { OnOk result (string_bytes out.new ≡ followed (string_bytes out.old) (at_least (level_of_binary op) (form_shown left.now) margin.now ++ (binary_pieces op ++ at_least (level_of_binary op + 1) (form_shown right.now) margin.now))) }
+{
+    write_least(alloc, out, left, binary_level(op), margin)?;
+    write_binary(out, op)?;
+    write_part(alloc, out, right, level(right) <= binary_level(op), margin)?;
+    Ok(())
+}
+
+#[cycle(layout)]
+#[tactic(auto, using(cs_layout::proofs::Following::followed_append, cs_layout::proofs::Following::followed_nothing))]
+fn write_kind(
+    alloc: Global,
+    out: &mut String,
+    operand: &Form,
+    word: Fixed,
+    ty: &TypeForm,
+    margin: &str,
+) -> Result<(), NoMemory>
+    ensures { OnOk result (string_bytes out.new ≡ followed (string_bytes out.old) (at_least relational_level (form_shown operand.now) margin.now ++ (fixed word ++ type_pieces ty.now))) }
+{
+    write_least(alloc, out, operand, RELATIONAL, margin)?;
+    write_fixed(out, word)?;
+    write_type(out, ty)?;
+    Ok(())
+}
+
+#[cycle(layout)]
+#[tactic(auto, using(cs_layout::proofs::Following::followed_append, cs_layout::proofs::Following::followed_nothing))]
+fn write_conditional(
+    alloc: Global,
+    out: &mut String,
+    test: &Form,
+    on_true: &Form,
+    on_false: &Form,
+    margin: &str,
+) -> Result<(), NoMemory>
+    ensures { OnOk result (string_bytes out.new ≡ followed (string_bytes out.old) (at_least (conditional_level + 1) (form_shown test.now) margin.now ++ (fixed Question ++ ((form_shown on_true.now).pieces margin.now ++ (fixed Otherwise ++ (form_shown on_false.now).pieces margin.now))))) }
+{
+    write_least(alloc, out, test, 1, margin)?;
+    write_fixed(out, Fixed::Question)?;
+    write_form(alloc, out, on_true, margin)?;
+    write_fixed(out, Fixed::Otherwise)?;
+    write_form(alloc, out, on_false, margin)?;
+    Ok(())
+}
+
 /// An expression, whose statement stands behind this margin.
 #[cycle(layout)]
 #[tactic(auto, using(cs_layout::proofs::Following::followed_append, cs_layout::proofs::Following::followed_nothing))]
@@ -246,156 +571,53 @@ pub fn write_form(
         Form::Literal { literal, .. } => write_literal(out, literal),
         Form::Name { text, .. } => write_name(out, text),
         Form::This { .. } => write_fixed(out, Fixed::This),
-        Form::Member { object, name, .. } => {
-            write_part(
-                alloc,
-                out,
-                object.get(),
-                level(object.get()) < NEW_ARRAY,
-                margin,
-            )?;
-            write_fixed(out, Fixed::Dot)?;
-            write_name(out, &name.text)
-        }
+        Form::Member { object, name, .. } => write_member(alloc, out, object.get(), name, margin),
         Form::Call {
             object,
             name,
             args,
             ..
-        } => {
-            write_part(
-                alloc,
-                out,
-                object.get(),
-                level(object.get()) < NEW_ARRAY,
-                margin,
-            )?;
-            write_fixed(out, Fixed::Dot)?;
-            write_name(out, &name.text)?;
-            write_arguments(alloc, out, args.as_slice(), margin)
-        }
-        Form::BaseMember { name, .. } => {
-            write_fixed(out, Fixed::Base)?;
-            write_name(out, &name.text)
-        }
+        } => { write_call(alloc, out, object.get(), name, args.as_slice(), margin) }
+        Form::BaseMember { name, .. } => write_base_member(out, name),
         Form::BaseCall { name, args, .. } => {
-            write_fixed(out, Fixed::Base)?;
-            write_name(out, &name.text)?;
-            write_arguments(alloc, out, args.as_slice(), margin)
+            write_base_call(alloc, out, name, args.as_slice(), margin)
         }
-        Form::Global { path, .. } => {
-            write_fixed(out, Fixed::Global)?;
-            write_path(out, path.items())
-        }
+        Form::Global { path, .. } => write_global(out, path.items()),
         Form::GlobalCall { path, args, .. } => {
-            write_fixed(out, Fixed::Global)?;
-            write_path(out, path.items())?;
-            write_arguments(alloc, out, args.as_slice(), margin)
+            write_global_call(alloc, out, path.items(), args.as_slice(), margin)
         }
         Form::Index { array, index, .. } => {
-            write_part(
-                alloc,
-                out,
-                array.get(),
-                level(array.get()) < PRIMARY,
-                margin,
-            )?;
-            write_fixed(out, Fixed::OpenIndex)?;
-            write_form(alloc, out, index.get(), margin)?;
-            write_fixed(out, Fixed::CloseIndex)
+            write_indexed(alloc, out, array.get(), index.get(), margin)
         }
-        Form::New { class, args, .. } => {
-            write_fixed(out, Fixed::New)?;
-            write_type_name(out, class)?;
-            write_arguments(alloc, out, args.as_slice(), margin)
-        }
+        Form::New { class, args, .. } => write_new(alloc, out, class, args.as_slice(), margin),
         Form::NewArray {
             element,
             length,
             ..
-        } => {
-            write_fixed(out, Fixed::New)?;
-            write_type_name(out, &element.name)?;
-            write_fixed(out, Fixed::OpenIndex)?;
-            write_form(alloc, out, length.get(), margin)?;
-            write_fixed(out, Fixed::CloseIndex)?;
-            write_ranks(out, element.ranks)
-        }
+        } => { write_new_array(alloc, out, element, length.get(), margin) }
         Form::Checked { inner, .. } => {
-            write_fixed(out, Fixed::Checked)?;
-            write_form(alloc, out, inner.get(), margin)?;
-            write_fixed(out, Fixed::Close)
+            write_within(alloc, out, Fixed::Checked, inner.get(), margin)
         }
         Form::Unchecked { inner, .. } => {
-            write_fixed(out, Fixed::Unchecked)?;
-            write_form(alloc, out, inner.get(), margin)?;
-            write_fixed(out, Fixed::Close)
+            write_within(alloc, out, Fixed::Unchecked, inner.get(), margin)
         }
-        Form::Default { ty, .. } => {
-            write_fixed(out, Fixed::DefaultOf)?;
-            write_type(out, ty)?;
-            write_fixed(out, Fixed::Close)
-        }
+        Form::Default { ty, .. } => write_default(out, ty),
         Form::Lambda { params, block, .. } => {
-            write_fixed(out, Fixed::Open)?;
-            write_params(out, params.items())?;
-            write_fixed(out, Fixed::Arrow)?;
-            write_deeper(alloc, out, block, margin)?;
-            write_head(out, Fixed::CloseBrace, margin)
+            write_lambda(alloc, out, params.items(), block, margin)
         }
-        Form::Unary { op, operand, .. } => {
-            write_unary(out, *op)?;
-            write_operand(alloc, out, *op, operand.get(), margin)
-        }
-        Form::Cast { ty, operand, .. } => {
-            write_fixed(out, Fixed::Open)?;
-            write_type(out, ty)?;
-            write_fixed(out, Fixed::Close)?;
-            write_cast_operand(alloc, out, operand.get(), margin)
-        }
+        Form::Unary { op, operand, .. } => write_signed(alloc, out, *op, operand.get(), margin),
+        Form::Cast { ty, operand, .. } => write_cast(alloc, out, ty, operand.get(), margin),
         Form::Binary {
             op,
             left,
             right,
             ..
-        } => {
-            write_part(
-                alloc,
-                out,
-                left.get(),
-                level(left.get()) < binary_level(*op),
-                margin,
-            )?;
-            write_binary(out, *op)?;
-            write_part(
-                alloc,
-                out,
-                right.get(),
-                level(right.get()) <= binary_level(*op),
-                margin,
-            )
-        }
+        } => { write_two(alloc, out, *op, left.get(), right.get(), margin) }
         Form::Is { operand, ty, .. } => {
-            write_part(
-                alloc,
-                out,
-                operand.get(),
-                level(operand.get()) < RELATIONAL,
-                margin,
-            )?;
-            write_fixed(out, Fixed::Is)?;
-            write_type(out, ty)
+            write_kind(alloc, out, operand.get(), Fixed::Is, ty, margin)
         }
         Form::As { operand, ty, .. } => {
-            write_part(
-                alloc,
-                out,
-                operand.get(),
-                level(operand.get()) < RELATIONAL,
-                margin,
-            )?;
-            write_fixed(out, Fixed::As)?;
-            write_type(out, ty)
+            write_kind(alloc, out, operand.get(), Fixed::As, ty, margin)
         }
         Form::Conditional {
             test,
@@ -403,11 +625,14 @@ pub fn write_form(
             on_false,
             ..
         } => {
-            write_part(alloc, out, test.get(), level(test.get()) < 1, margin)?;
-            write_fixed(out, Fixed::Question)?;
-            write_form(alloc, out, on_true.get(), margin)?;
-            write_fixed(out, Fixed::Otherwise)?;
-            write_form(alloc, out, on_false.get(), margin)
+            write_conditional(
+                alloc,
+                out,
+                test.get(),
+                on_true.get(),
+                on_false.get(),
+                margin,
+            )
         }
     }
 }
