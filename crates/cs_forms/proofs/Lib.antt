@@ -1,2 +1,1 @@
 -- The lemmas stand in cs_layout.
-pub mod Chains
