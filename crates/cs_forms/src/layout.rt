@@ -4,9 +4,9 @@ ghost use Rattle.std.specs.Prelude.{◌≡◌, ◌+◌, ◌++◌, OnOk, IfOk, ma
 ghost use Rattle.std.specs.List.{flat_map};
 ghost use Rattle.std.specs.String.{string_bytes};
 ghost use Rattle.cs_layout.specs.Pieces.{followed};
-ghost use Rattle.cs_layout.specs.Words.{fixed, listed, name as name_pieces, path as path_pieces, ranks as rank_pieces, type_without_ranks, type_pieces, param_pieces, unary_pieces, binary_pieces, binary_level as level_of_binary, conditional_level, relational_level, new_array_level, primary_level};
+ghost use Rattle.cs_layout.specs.Words.{fixed, way_pieces, assign_pieces, listed, name as name_pieces, path as path_pieces, ranks as rank_pieces, type_without_ranks, type_pieces, param_pieces, unary_pieces, binary_pieces, binary_level as level_of_binary, conditional_level, relational_level, new_array_level, primary_level};
 ghost use Rattle.cs_layout.specs.Layout.{at_least, indent, line, deeper as deeper_of, enclosed, arguments, braced, label_pieces, typed, tested, valued, maybe_name, is_minus_op as is_minus_of, signed_operand, cast_operand, action_laid, form_shown, syntax_laid, arg_laid, block_laid, catching_laid, section_laid};
-ghost use Rattle.cs_layout.specs.declared.fixed.Fixed.TheVariants.{Arrow, Base, Close, CloseBrace, CloseIndex, DefaultOf, Dot, Global as GlobalPart, New, Newline, Open, OpenIndex, Otherwise, Question};
+ghost use Rattle.cs_layout.specs.declared.fixed.Fixed.TheVariants.{Equals, Goto, LabelEnd, Semicolon, Arrow, Base, Close, CloseBrace, CloseIndex, DefaultOf, Dot, Global as GlobalPart, New, Newline, Open, OpenIndex, Otherwise, Question};
 
 use cs_layout::{
     Fixed, binary_level, write_assign, write_binary, write_comma, write_fixed, write_literal,
@@ -14,8 +14,8 @@ use cs_layout::{
     write_way,
 };
 use cs_tree::{
-    Action, Arg, BinaryOp, Block, Catching, Form, Name, Param, Section, SwitchLabel, Syntax,
-    TypeForm, TypeName, UnaryOp,
+    Action, Arg, AssignOp, BinaryOp, Block, Catching, Form, Name, Param, Section, SwitchLabel,
+    Syntax, TypeForm, TypeName, UnaryOp, Way,
 };
 use dc_base::{NoMemory, Text};
 use std::alloc::Global;
@@ -201,8 +201,7 @@ fn write_part(
 fn write_arg(alloc: Global, out: &mut String, arg: &Arg, margin: &str) -> Result<(), NoMemory>
     ensures { OnOk result (string_bytes out.new ≡ followed (string_bytes out.old) (arg_laid arg.now margin.now)) }
 {
-    write_way(out, arg.way)?;
-    write_form(alloc, out, &arg.form, margin)
+    write_way_of(alloc, out, arg.way, &arg.form, margin)
 }
 
 #[cycle(layout)]
@@ -727,15 +726,9 @@ pub fn write_action(
     ensures { OnOk result (string_bytes out.new ≡ followed (string_bytes out.old) (action_laid action.now margin.now)) }
 {
     match action {
-        Action::Assign { place, value } => {
-            write_part(alloc, out, place, level(place) < NEW_ARRAY, margin)?;
-            write_fixed(out, Fixed::Equals)?;
-            write_form(alloc, out, value, margin)
-        }
+        Action::Assign { place, value } => write_assigned(alloc, out, place, value, margin),
         Action::Compound { op, place, value } => {
-            write_part(alloc, out, place, level(place) < NEW_ARRAY, margin)?;
-            write_assign(out, *op)?;
-            write_form(alloc, out, value, margin)
+            write_compound(alloc, out, *op, place, value, margin)
         }
         Action::Invoke { call } => write_form(alloc, out, call, margin),
     }
@@ -839,6 +832,125 @@ fn write_value(
     write_end(out, Fixed::Semicolon)
 }
 
+#[cycle(layout)]
+#[tactic(auto, using(cs_layout::proofs::Following::followed_append, cs_layout::proofs::Following::followed_nothing))]
+fn write_way_of(
+    alloc: Global,
+    out: &mut String,
+    way: Way,
+    form: &Form,
+    margin: &str,
+) -> Result<(), NoMemory>
+    ensures { OnOk result (string_bytes out.new ≡ followed (string_bytes out.old) (way_pieces way ++ (form_shown form.now).pieces margin.now)) }
+{
+    write_way(out, way)?;
+    write_form(alloc, out, form, margin)?;
+    Ok(())
+}
+
+#[cycle(layout)]
+#[tactic(auto, using(cs_layout::proofs::Following::followed_append, cs_layout::proofs::Following::followed_nothing))]
+fn write_assigned(
+    alloc: Global,
+    out: &mut String,
+    place: &Form,
+    value: &Form,
+    margin: &str,
+) -> Result<(), NoMemory>
+    ensures { OnOk result (string_bytes out.new ≡ followed (string_bytes out.old) (at_least new_array_level (form_shown place.now) margin.now ++ (fixed Equals ++ (form_shown value.now).pieces margin.now))) }
+{
+    write_least(alloc, out, place, NEW_ARRAY, margin)?;
+    write_fixed(out, Fixed::Equals)?;
+    write_form(alloc, out, value, margin)?;
+    Ok(())
+}
+
+#[cycle(layout)]
+#[tactic(auto, using(cs_layout::proofs::Following::followed_append, cs_layout::proofs::Following::followed_nothing))]
+fn write_compound(
+    alloc: Global,
+    out: &mut String,
+    op: AssignOp,
+    place: &Form,
+    value: &Form,
+    margin: &str,
+) -> Result<(), NoMemory>
+    ensures { OnOk result (string_bytes out.new ≡ followed (string_bytes out.old) (at_least new_array_level (form_shown place.now) margin.now ++ (assign_pieces op ++ (form_shown value.now).pieces margin.now))) }
+{
+    write_least(alloc, out, place, NEW_ARRAY, margin)?;
+    write_assign(out, op)?;
+    write_form(alloc, out, value, margin)?;
+    Ok(())
+}
+
+#[cycle(layout)]
+#[tactic(auto, using(cs_layout::proofs::Following::followed_append, cs_layout::proofs::Following::followed_nothing))]
+fn write_declare(
+    alloc: Global,
+    out: &mut String,
+    ty: &TypeForm,
+    name: &Name,
+    value: &Form,
+    margin: &str,
+) -> Result<(), NoMemory>
+    ensures { OnOk result (string_bytes out.new ≡ followed (string_bytes out.old) (line margin.now (typed ty.now name.now ++ (fixed Equals ++ ((form_shown value.now).pieces margin.now ++ fixed Semicolon))))) }
+{
+    write_indent(out, margin)?;
+    write_typed(out, ty, name)?;
+    write_fixed(out, Fixed::Equals)?;
+    write_form(alloc, out, value, margin)?;
+    write_end(out, Fixed::Semicolon)?;
+    Ok(())
+}
+
+#[cycle(layout)]
+#[tactic(auto, using(cs_layout::proofs::Following::followed_append, cs_layout::proofs::Following::followed_nothing))]
+fn write_act(alloc: Global, out: &mut String, action: &Action, margin: &str) -> Result<(), NoMemory>
+    ensures { OnOk result (string_bytes out.new ≡ followed (string_bytes out.old) (line margin.now (action_laid action.now margin.now ++ fixed Semicolon))) }
+{
+    write_indent(out, margin)?;
+    write_action(alloc, out, action, margin)?;
+    write_end(out, Fixed::Semicolon)?;
+    Ok(())
+}
+
+#[tactic(auto, using(cs_layout::proofs::Following::followed_append, cs_layout::proofs::Following::followed_nothing))]
+fn write_named(out: &mut String, text: &Text, margin: &str) -> Result<(), NoMemory>
+    ensures { OnOk result (string_bytes out.new ≡ followed (string_bytes out.old) (line margin.now (name_pieces text.now ++ fixed LabelEnd))) }
+{
+    write_indent(out, margin)?;
+    write_name(out, text)?;
+    write_end(out, Fixed::LabelEnd)?;
+    Ok(())
+}
+
+#[tactic(auto, using(cs_layout::proofs::Following::followed_append, cs_layout::proofs::Following::followed_nothing))]
+fn write_goto(out: &mut String, text: &Text, margin: &str) -> Result<(), NoMemory>
+    ensures { OnOk result (string_bytes out.new ≡ followed (string_bytes out.old) (line margin.now (fixed Goto ++ (name_pieces text.now ++ fixed Semicolon)))) }
+{
+    write_head(out, Fixed::Goto, margin)?;
+    write_name(out, text)?;
+    write_end(out, Fixed::Semicolon)?;
+    Ok(())
+}
+
+#[cycle(layout)]
+#[tactic(auto, using(cs_layout::proofs::Following::followed_append, cs_layout::proofs::Following::followed_nothing))]
+fn write_round(
+    alloc: Global,
+    out: &mut String,
+    head: Fixed,
+    test: &Form,
+    block: &Block,
+    margin: &str,
+) -> Result<(), NoMemory>
+    ensures { OnOk result (string_bytes out.new ≡ followed (string_bytes out.old) (tested (fixed head) (form_shown test.now) margin.now ++ braced (block_laid block.now) margin.now)) }
+{
+    write_tested(alloc, out, head, test, margin)?;
+    write_block(alloc, out, block, margin)?;
+    Ok(())
+}
+
 /// A statement, with its margin and its newline.
 #[cycle(layout)]
 #[tactic(auto, using(cs_layout::proofs::Following::followed_append, cs_layout::proofs::Following::followed_nothing))]
@@ -856,28 +968,10 @@ pub fn write_syntax(
             name,
             value,
             ..
-        } => {
-            write_indent(out, margin)?;
-            write_typed(out, ty, name)?;
-            write_fixed(out, Fixed::Equals)?;
-            write_form(alloc, out, value, margin)?;
-            write_end(out, Fixed::Semicolon)
-        }
-        Syntax::Act { action, .. } => {
-            write_indent(out, margin)?;
-            write_action(alloc, out, action, margin)?;
-            write_end(out, Fixed::Semicolon)
-        }
-        Syntax::Label { label, .. } => {
-            write_indent(out, margin)?;
-            write_name(out, label)?;
-            write_end(out, Fixed::LabelEnd)
-        }
-        Syntax::Goto { label, .. } => {
-            write_head(out, Fixed::Goto, margin)?;
-            write_name(out, label)?;
-            write_end(out, Fixed::Semicolon)
-        }
+        } => write_declare(alloc, out, ty, name, value, margin),
+        Syntax::Act { action, .. } => write_act(alloc, out, action, margin),
+        Syntax::Label { label, .. } => write_named(out, label, margin),
+        Syntax::Goto { label, .. } => write_goto(out, label, margin),
         Syntax::Break { .. } => write_line(out, Fixed::Break, margin),
         Syntax::Continue { .. } => write_line(out, Fixed::Continue, margin),
         Syntax::Return { value: None, .. } => write_line(out, Fixed::ReturnNothing, margin),
@@ -911,8 +1005,7 @@ pub fn write_syntax(
             write_block(alloc, out, otherwise, margin)
         }
         Syntax::While { test, block, .. } => {
-            write_tested(alloc, out, Fixed::While, test, margin)?;
-            write_block(alloc, out, block, margin)
+            write_round(alloc, out, Fixed::While, test, block, margin)
         }
         Syntax::DoWhile { block, test, .. } => {
             write_line(out, Fixed::Do, margin)?;
@@ -963,8 +1056,7 @@ pub fn write_syntax(
             write_block(alloc, out, block, margin)
         }
         Syntax::Lock { object, block, .. } => {
-            write_tested(alloc, out, Fixed::Lock, object, margin)?;
-            write_block(alloc, out, block, margin)
+            write_round(alloc, out, Fixed::Lock, object, block, margin)
         }
         Syntax::Switch {
             value,
