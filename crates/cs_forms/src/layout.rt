@@ -6,7 +6,7 @@ ghost use Rattle.std.specs.String.{string_bytes};
 ghost use Rattle.cs_layout.specs.Pieces.{followed};
 ghost use Rattle.cs_layout.specs.Words.{fixed, way_pieces, assign_pieces, listed, name as name_pieces, path as path_pieces, ranks as rank_pieces, type_without_ranks, type_pieces, param_pieces, unary_pieces, binary_pieces, binary_level as level_of_binary, conditional_level, relational_level, new_array_level, primary_level};
 ghost use Rattle.cs_layout.specs.Layout.{at_least, indent, line, deeper as deeper_of, enclosed, arguments, braced, label_pieces, typed, tested, valued, maybe_name, is_minus_op as is_minus_of, signed_operand, cast_operand, action_laid, form_shown, syntax_laid, arg_laid, block_laid, catching_laid, section_laid};
-ghost use Rattle.cs_layout.specs.declared.fixed.Fixed.TheVariants.{Equals, Goto, LabelEnd, Semicolon, Arrow, Base, Close, CloseBrace, CloseIndex, DefaultOf, Dot, Global as GlobalPart, New, Newline, Open, OpenIndex, Otherwise, Question};
+ghost use Rattle.cs_layout.specs.declared.fixed.Fixed.TheVariants.{Arrow, Base, Catch, Close, CloseBrace, CloseIndex, DefaultOf, Do, DoEnd, Dot, Else, Equals, Finally, For, Global as GlobalPart, Goto, If, LabelEnd, New, Newline, Open, OpenBrace, OpenIndex, Otherwise, Question, Semicolon, Switch, Then, Try, While};
 
 use cs_layout::{
     Fixed, binary_level, write_assign, write_binary, write_comma, write_fixed, write_literal,
@@ -294,7 +294,8 @@ fn write_call(
 {
     write_least(alloc, out, object, NEW_ARRAY, margin)?;
     write_fixed(out, Fixed::Dot)?;
-    write_named_call(alloc, out, name, args, margin)?;
+    write_name(out, &name.text)?;
+    write_arguments(alloc, out, args, margin)?;
     Ok(())
 }
 
@@ -744,8 +745,7 @@ fn write_section(
 ) -> Result<(), NoMemory>
     ensures { OnOk result (string_bytes out.new ≡ followed (string_bytes out.old) (section_laid section.now margin.now)) }
 {
-    write_labels(out, section.labels.items(), margin)?;
-    write_block(alloc, out, &section.block, margin)
+    write_labelled(alloc, out, section.labels.items(), &section.block, margin)
 }
 
 #[cycle(layout)]
@@ -775,11 +775,7 @@ fn write_catch(
 ) -> Result<(), NoMemory>
     ensures { OnOk result (string_bytes out.new ≡ followed (string_bytes out.old) (catching_laid catch.now margin.now)) }
 {
-    write_head(out, Fixed::Catch, margin)?;
-    write_type(out, &catch.ty)?;
-    write_maybe_name(out, &catch.name)?;
-    write_end(out, Fixed::Close)?;
-    write_block(alloc, out, &catch.block, margin)
+    write_catching(alloc, out, &catch.ty, &catch.name, &catch.block, margin)
 }
 
 #[cycle(layout)]
@@ -951,6 +947,181 @@ fn write_round(
     Ok(())
 }
 
+#[cycle(layout)]
+#[tactic(auto, using(cs_layout::proofs::Following::followed_append, cs_layout::proofs::Following::followed_nothing))]
+fn write_if_else(
+    alloc: Global,
+    out: &mut String,
+    test: &Form,
+    block: &Block,
+    otherwise: &Block,
+    margin: &str,
+) -> Result<(), NoMemory>
+    ensures { OnOk result (string_bytes out.new ≡ followed (string_bytes out.old) (tested (fixed If) (form_shown test.now) margin.now ++ (braced (block_laid block.now) margin.now ++ (line margin.now (fixed Else) ++ braced (block_laid otherwise.now) margin.now)))) }
+{
+    write_tested(alloc, out, Fixed::If, test, margin)?;
+    write_block(alloc, out, block, margin)?;
+    write_line(out, Fixed::Else, margin)?;
+    write_block(alloc, out, otherwise, margin)?;
+    Ok(())
+}
+
+#[cycle(layout)]
+#[tactic(auto, using(cs_layout::proofs::Following::followed_append, cs_layout::proofs::Following::followed_nothing))]
+fn write_do(
+    alloc: Global,
+    out: &mut String,
+    block: &Block,
+    test: &Form,
+    margin: &str,
+) -> Result<(), NoMemory>
+    ensures { OnOk result (string_bytes out.new ≡ followed (string_bytes out.old) (line margin.now (fixed Do) ++ (braced (block_laid block.now) margin.now ++ line margin.now (fixed While ++ ((form_shown test.now).pieces margin.now ++ fixed DoEnd))))) }
+{
+    write_line(out, Fixed::Do, margin)?;
+    write_block(alloc, out, block, margin)?;
+    write_head(out, Fixed::While, margin)?;
+    write_form(alloc, out, test, margin)?;
+    write_end(out, Fixed::DoEnd)?;
+    Ok(())
+}
+
+#[cycle(layout)]
+#[tactic(auto, using(cs_layout::proofs::Following::followed_append, cs_layout::proofs::Following::followed_nothing))]
+fn write_for(
+    alloc: Global,
+    out: &mut String,
+    test: &Form,
+    step: &Action,
+    block: &Block,
+    margin: &str,
+) -> Result<(), NoMemory>
+    ensures { OnOk result (string_bytes out.new ≡ followed (string_bytes out.old) (line margin.now (fixed For ++ ((form_shown test.now).pieces margin.now ++ (fixed Then ++ (action_laid step.now margin.now ++ fixed Close)))) ++ braced (block_laid block.now) margin.now)) }
+{
+    write_head(out, Fixed::For, margin)?;
+    write_form(alloc, out, test, margin)?;
+    write_fixed(out, Fixed::Then)?;
+    write_action(alloc, out, step, margin)?;
+    write_end(out, Fixed::Close)?;
+    write_block(alloc, out, block, margin)?;
+    Ok(())
+}
+
+/// A block behind a line that binds a variable.
+#[cycle(layout)]
+#[tactic(auto, using(cs_layout::proofs::Following::followed_append, cs_layout::proofs::Following::followed_nothing))]
+fn write_bound(
+    alloc: Global,
+    out: &mut String,
+    head: Fixed,
+    ty: &TypeForm,
+    name: &Name,
+    mid: Fixed,
+    value: &Form,
+    block: &Block,
+    margin: &str,
+) -> Result<(), NoMemory>
+    ensures { OnOk result (string_bytes out.new ≡ followed (string_bytes out.old) (line margin.now (fixed head ++ (typed ty.now name.now ++ (fixed mid ++ ((form_shown value.now).pieces margin.now ++ fixed Close)))) ++ braced (block_laid block.now) margin.now)) }
+{
+    write_head(out, head, margin)?;
+    write_typed(out, ty, name)?;
+    write_fixed(out, mid)?;
+    write_form(alloc, out, value, margin)?;
+    write_end(out, Fixed::Close)?;
+    write_block(alloc, out, block, margin)?;
+    Ok(())
+}
+
+#[cycle(layout)]
+#[tactic(auto, using(cs_layout::proofs::Following::followed_append, cs_layout::proofs::Following::followed_nothing))]
+fn write_switch(
+    alloc: Global,
+    out: &mut String,
+    value: &Form,
+    sections: &[Section],
+    margin: &str,
+) -> Result<(), NoMemory>
+    ensures { OnOk result (string_bytes out.new ≡ followed (string_bytes out.old) (tested (fixed Switch) (form_shown value.now) margin.now ++ (line margin.now (fixed OpenBrace) ++ (flat_map (λ s. s (deeper_of margin.now)) (map section_laid sections.now) ++ line margin.now (fixed CloseBrace))))) }
+{
+    write_tested(alloc, out, Fixed::Switch, value, margin)?;
+    write_line(out, Fixed::OpenBrace, margin)?;
+    write_sections(alloc, out, sections, margin)?;
+    write_line(out, Fixed::CloseBrace, margin)?;
+    Ok(())
+}
+
+#[cycle(layout)]
+#[tactic(auto, using(cs_layout::proofs::Following::followed_append, cs_layout::proofs::Following::followed_nothing))]
+fn write_try(
+    alloc: Global,
+    out: &mut String,
+    block: &Block,
+    catches: &[Catching],
+    margin: &str,
+) -> Result<(), NoMemory>
+    ensures { OnOk result (string_bytes out.new ≡ followed (string_bytes out.old) (line margin.now (fixed Try) ++ (braced (block_laid block.now) margin.now ++ flat_map (λ c. c margin.now) (map catching_laid catches.now)))) }
+{
+    write_line(out, Fixed::Try, margin)?;
+    write_block(alloc, out, block, margin)?;
+    write_catches(alloc, out, catches, margin)?;
+    Ok(())
+}
+
+#[cycle(layout)]
+#[tactic(auto, using(cs_layout::proofs::Following::followed_append, cs_layout::proofs::Following::followed_nothing))]
+fn write_try_finally(
+    alloc: Global,
+    out: &mut String,
+    block: &Block,
+    catches: &[Catching],
+    finally: &Block,
+    margin: &str,
+) -> Result<(), NoMemory>
+    ensures { OnOk result (string_bytes out.new ≡ followed (string_bytes out.old) (line margin.now (fixed Try) ++ (braced (block_laid block.now) margin.now ++ (flat_map (λ c. c margin.now) (map catching_laid catches.now) ++ (line margin.now (fixed Finally) ++ braced (block_laid finally.now) margin.now))))) }
+{
+    write_line(out, Fixed::Try, margin)?;
+    write_block(alloc, out, block, margin)?;
+    write_catches(alloc, out, catches, margin)?;
+    write_line(out, Fixed::Finally, margin)?;
+    write_block(alloc, out, finally, margin)?;
+    Ok(())
+}
+
+#[cycle(layout)]
+#[tactic(auto, using(cs_layout::proofs::Following::followed_append, cs_layout::proofs::Following::followed_nothing))]
+fn write_labelled(
+    alloc: Global,
+    out: &mut String,
+    labels: &[SwitchLabel],
+    block: &Block,
+    margin: &str,
+) -> Result<(), NoMemory>
+    ensures { OnOk result (string_bytes out.new ≡ followed (string_bytes out.old) (flat_map (label_pieces margin.now) labels.now ++ braced (block_laid block.now) margin.now)) }
+{
+    write_labels(out, labels, margin)?;
+    write_block(alloc, out, block, margin)?;
+    Ok(())
+}
+
+#[cycle(layout)]
+#[tactic(auto, using(cs_layout::proofs::Following::followed_append, cs_layout::proofs::Following::followed_nothing))]
+fn write_catching(
+    alloc: Global,
+    out: &mut String,
+    ty: &TypeForm,
+    name: &Option<Name>,
+    block: &Block,
+    margin: &str,
+) -> Result<(), NoMemory>
+    ensures { OnOk result (string_bytes out.new ≡ followed (string_bytes out.old) (line margin.now (fixed Catch ++ (type_pieces ty.now ++ (maybe_name name.now ++ fixed Close))) ++ braced (block_laid block.now) margin.now)) }
+{
+    write_head(out, Fixed::Catch, margin)?;
+    write_type(out, ty)?;
+    write_maybe_name(out, name)?;
+    write_end(out, Fixed::Close)?;
+    write_block(alloc, out, block, margin)?;
+    Ok(())
+}
+
 /// A statement, with its margin and its newline.
 #[cycle(layout)]
 #[tactic(auto, using(cs_layout::proofs::Following::followed_append, cs_layout::proofs::Following::followed_nothing))]
@@ -989,44 +1160,23 @@ pub fn write_syntax(
             block,
             otherwise: None,
             ..
-        } => {
-            write_tested(alloc, out, Fixed::If, test, margin)?;
-            write_block(alloc, out, block, margin)
-        }
+        } => write_round(alloc, out, Fixed::If, test, block, margin),
         Syntax::If {
             test,
             block,
             otherwise: Some(otherwise),
             ..
-        } => {
-            write_tested(alloc, out, Fixed::If, test, margin)?;
-            write_block(alloc, out, block, margin)?;
-            write_line(out, Fixed::Else, margin)?;
-            write_block(alloc, out, otherwise, margin)
-        }
+        } => write_if_else(alloc, out, test, block, otherwise, margin),
         Syntax::While { test, block, .. } => {
             write_round(alloc, out, Fixed::While, test, block, margin)
         }
-        Syntax::DoWhile { block, test, .. } => {
-            write_line(out, Fixed::Do, margin)?;
-            write_block(alloc, out, block, margin)?;
-            write_head(out, Fixed::While, margin)?;
-            write_form(alloc, out, test, margin)?;
-            write_end(out, Fixed::DoEnd)
-        }
+        Syntax::DoWhile { block, test, .. } => write_do(alloc, out, block, test, margin),
         Syntax::For {
             test,
             step,
             block,
             ..
-        } => {
-            write_head(out, Fixed::For, margin)?;
-            write_form(alloc, out, test, margin)?;
-            write_fixed(out, Fixed::Then)?;
-            write_action(alloc, out, step, margin)?;
-            write_end(out, Fixed::Close)?;
-            write_block(alloc, out, block, margin)
-        }
+        } => write_for(alloc, out, test, step, block, margin),
         Syntax::Foreach {
             ty,
             name,
@@ -1034,12 +1184,9 @@ pub fn write_syntax(
             block,
             ..
         } => {
-            write_head(out, Fixed::Foreach, margin)?;
-            write_typed(out, ty, name)?;
-            write_fixed(out, Fixed::In)?;
-            write_form(alloc, out, array, margin)?;
-            write_end(out, Fixed::Close)?;
-            write_block(alloc, out, block, margin)
+            write_bound(
+                alloc, out, Fixed::Foreach, ty, name, Fixed::In, array, block, margin,
+            )
         }
         Syntax::Using {
             ty,
@@ -1048,12 +1195,9 @@ pub fn write_syntax(
             block,
             ..
         } => {
-            write_head(out, Fixed::Using, margin)?;
-            write_typed(out, ty, name)?;
-            write_fixed(out, Fixed::Equals)?;
-            write_form(alloc, out, value, margin)?;
-            write_end(out, Fixed::Close)?;
-            write_block(alloc, out, block, margin)
+            write_bound(
+                alloc, out, Fixed::Using, ty, name, Fixed::Equals, value, block, margin,
+            )
         }
         Syntax::Lock { object, block, .. } => {
             write_round(alloc, out, Fixed::Lock, object, block, margin)
@@ -1062,33 +1206,18 @@ pub fn write_syntax(
             value,
             sections,
             ..
-        } => {
-            write_tested(alloc, out, Fixed::Switch, value, margin)?;
-            write_line(out, Fixed::OpenBrace, margin)?;
-            write_sections(alloc, out, sections.as_slice(), margin)?;
-            write_line(out, Fixed::CloseBrace, margin)
-        }
+        } => write_switch(alloc, out, value, sections.as_slice(), margin),
         Syntax::Try {
             block,
             catches,
             finally: None,
             ..
-        } => {
-            write_line(out, Fixed::Try, margin)?;
-            write_block(alloc, out, block, margin)?;
-            write_catches(alloc, out, catches.as_slice(), margin)
-        }
+        } => write_try(alloc, out, block, catches.as_slice(), margin),
         Syntax::Try {
             block,
             catches,
             finally: Some(finally),
             ..
-        } => {
-            write_line(out, Fixed::Try, margin)?;
-            write_block(alloc, out, block, margin)?;
-            write_catches(alloc, out, catches.as_slice(), margin)?;
-            write_line(out, Fixed::Finally, margin)?;
-            write_block(alloc, out, finally, margin)
-        }
+        } => write_try_finally(alloc, out, block, catches.as_slice(), finally, margin),
     }
 }
