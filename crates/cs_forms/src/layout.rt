@@ -1185,7 +1185,15 @@ pub fn write_syntax(
             ..
         } => {
             write_bound(
-                alloc, out, Fixed::Foreach, ty, name, Fixed::In, array, block, margin,
+                alloc,
+                out,
+                Fixed::Foreach,
+                ty,
+                name,
+                Fixed::In,
+                array,
+                block,
+                margin,
             )
         }
         Syntax::Using {
@@ -1196,7 +1204,15 @@ pub fn write_syntax(
             ..
         } => {
             write_bound(
-                alloc, out, Fixed::Using, ty, name, Fixed::Equals, value, block, margin,
+                alloc,
+                out,
+                Fixed::Using,
+                ty,
+                name,
+                Fixed::Equals,
+                value,
+                block,
+                margin,
             )
         }
         Syntax::Lock { object, block, .. } => {
