@@ -121,7 +121,10 @@ pub fn modifiers(tokens: &mut Cursor<Token>) -> Result<Marked, Fault>
     let override_at = flag(tokens, KW_OVERRIDE)?;
     let readonly_at = flag(tokens, KW_READONLY)?;
     let extern_at = flag(tokens, KW_EXTERN)?;
-    let late = first(virtual_at, first(override_at, first(readonly_at, extern_at)));
+    let late = first(
+        virtual_at,
+        first(override_at, first(readonly_at, extern_at)),
+    );
     let early = first(static_at, first(abstract_at, first(sealed_at, late)));
     Ok(Marked {
         mods: Mods {

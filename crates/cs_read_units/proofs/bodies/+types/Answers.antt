@@ -1,4 +1,4 @@
-use Rattle.std.proofs.Common.{◌≡◌, ◌-◌, ◌<◌, rules, true, [], ◌∷◌, refl, sym, ◌∙◌, subst, Err, arith}
+use Rattle.std.proofs.Common.{◌≡◌, ◌-◌, rules, true, [], refl, sym, ◌∙◌, subst, Err, arith}
 use Rattle.std.proofs.lemmas.Result.{err_from_is_err_and}
 use Rattle.dc_base.specs.declared.failure.Or.TheVariants.{Fault as WithFault}
 use Rattle.cs_token.specs.Placed.{Placed as Token}

@@ -1,6 +1,6 @@
 -- A type of this number calls what stands in it, which calls a type of a lower number. So far the items are what is read in the rounds
 -- that are left.
-use Rattle.std.proofs.Common.{◌≡◌, ◌+◌, ◌-◌, ◌*◌, true, [], ◌∷◌}
+use Rattle.std.proofs.Common.{◌≡◌, ◌+◌, ◌-◌, ◌*◌, true, []}
 use Rattle.cs_grammar.specs.Grammar.{turns, read_rounds}
 use Rattle.cs_productions.specs.Tokens.{kind}
 use Rattle.cs_units.specs.Kinds.{item_kinds}

@@ -1,5 +1,5 @@
 -- So far it is what is read in the rounds that are left.
-use Rattle.std.proofs.Common.{◌≡◌, ◌-◌, true, [], ◌∷◌}
+use Rattle.std.proofs.Common.{◌≡◌, ◌-◌, true, []}
 use Rattle.cs_grammar.specs.Grammar.{turns, read_rounds}
 use Rattle.cs_productions.specs.Tokens.{kind}
 use Rattle.cs_productions.specs.Kinds.{names}

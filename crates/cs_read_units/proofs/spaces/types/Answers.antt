@@ -1,4 +1,4 @@
-use Rattle.std.proofs.Common.{◌≡◌, ◌-◌, rules, true, [], ◌∷◌, refl, sym, ◌∙◌, Err, arith}
+use Rattle.std.proofs.Common.{◌≡◌, ◌-◌, rules, true, [], refl, sym, ◌∙◌, Err, arith}
 use Rattle.cs_grammar.specs.Grammar.{turns}
 use Rattle.cs_grammar.proofs.Turns.{round_on, stop}
 use Rattle.cs_productions.specs.Tokens.{kind}
