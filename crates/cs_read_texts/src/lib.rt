@@ -21,3 +21,6 @@ mod read;
 pub use fault::ReadFault;
 pub use laws::one_text;
 pub use read::unit_of_text;
+
+#[cfg(test)]
+mod tests;
