@@ -1,1 +1,3 @@
--- The lemmas stand in cs_layout.
+-- Which calls cite each file in the proof of their clauses.
+-- texts::margin
+pub mod Margins

@@ -8,9 +8,9 @@
 #![tactic(auto)]
 
 mod members;
-mod print;
-mod units;
 #[cfg(test)]
 mod tests;
+mod texts;
+mod units;
 
-pub use print::{print, print_member};
+pub use texts::{print, print_member};

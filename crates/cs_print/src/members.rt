@@ -12,9 +12,7 @@ ghost use Rattle.cs_unit_layout.specs.Members.{accessor_laid, accessors_laid, bl
 use cs_forms::{write_arguments, write_block, write_form};
 use cs_layout::{Fixed, write_fixed};
 use cs_lines::{deeper, write_end, write_indent, write_line, write_typed};
-use cs_tree::{
-    Accessor, Arg, Block, Explicit, Form, Initial, Member, Mods, Name, Param, TypeForm,
-};
+use cs_tree::{Accessor, Arg, Block, Explicit, Form, Initial, Member, Mods, Name, Param, TypeForm};
 use cs_unit_layout::{
     Headword, write_headword, write_indexer_head, write_initializer_head, write_maker_head,
     write_method_head, write_mods, write_note, write_operator_head, write_property_head,
@@ -358,7 +356,17 @@ pub(crate) fn write_member(
             ..
         } => {
             write_note(out, note, margin)?;
-            write_method(alloc, out, *mods, result, explicit, name, params.items(), block, margin)
+            write_method(
+                alloc,
+                out,
+                *mods,
+                result,
+                explicit,
+                name,
+                params.items(),
+                block,
+                margin,
+            )
         }
         Member::Constructor {
             note,
@@ -370,7 +378,16 @@ pub(crate) fn write_member(
             ..
         } => {
             write_note(out, note, margin)?;
-            write_constructor(alloc, out, *mods, name, params.items(), initial, block, margin)
+            write_constructor(
+                alloc,
+                out,
+                *mods,
+                name,
+                params.items(),
+                initial,
+                block,
+                margin,
+            )
         }
         Member::Initializer {
             note,
@@ -409,7 +426,9 @@ pub(crate) fn write_member(
             setter,
             ..
         } => {
-            write_indexer(alloc, out, *mods, ty, name, index_ty, index, getter, setter, margin)
+            write_indexer(
+                alloc, out, *mods, ty, name, index_ty, index, getter, setter, margin,
+            )
         }
         Member::Operator {
             ty,

@@ -10,9 +10,7 @@ ghost use Rattle.cs_unit_layout.specs.Units.{between, each, enumerator_laid, bod
 use crate::members::write_member;
 use cs_layout::{Fixed, write_fixed};
 use cs_lines::{deeper, write_indent, write_line};
-use cs_tree::{
-    Decl, Enumerator, Item, Kind, Mods, Name, Param, Path, Space, TypeForm, Unit,
-};
+use cs_tree::{Decl, Enumerator, Item, Kind, Mods, Name, Param, Path, Space, TypeForm, Unit};
 use cs_unit_layout::{
     write_assembly, write_body_head, write_delegate_head, write_enum_head, write_enumerators,
     write_namespace_head, write_note,
@@ -122,12 +120,7 @@ fn write_body_type(
 
 #[cycle(types)]
 #[tactic(auto, using(cs_layout::proofs::Following::followed_append))]
-fn write_item(
-    alloc: Global,
-    out: &mut String,
-    item: &Item,
-    margin: &str,
-) -> Result<(), NoMemory>
+fn write_item(alloc: Global, out: &mut String, item: &Item, margin: &str) -> Result<(), NoMemory>
     ensures { OnOk result (string_bytes out.new ≡ followed (string_bytes out.old) (item_laid item.now margin.now)) }
 {
     match item {
@@ -139,12 +132,7 @@ fn write_item(
 /// A type on lines of its own, behind this margin.
 #[cycle(types)]
 #[tactic(auto, using(cs_layout::proofs::Following::followed_append))]
-fn write_decl(
-    alloc: Global,
-    out: &mut String,
-    decl: &Decl,
-    margin: &str,
-) -> Result<(), NoMemory>
+fn write_decl(alloc: Global, out: &mut String, decl: &Decl, margin: &str) -> Result<(), NoMemory>
     ensures { OnOk result (string_bytes out.new ≡ followed (string_bytes out.old) (decl_laid decl.now margin.now)) }
 {
     match decl {
@@ -176,7 +164,16 @@ fn write_decl(
             ty,
             enumerators,
             ..
-        } => write_enum(alloc, out, note, *mods, name, ty, enumerators.items(), margin),
+        } => write_enum(
+            alloc,
+            out,
+            note,
+            *mods,
+            name,
+            ty,
+            enumerators.items(),
+            margin,
+        ),
         Decl::Delegate {
             note,
             mods,
@@ -225,12 +222,7 @@ fn write_namespace(
     Ok(())
 }
 
-fn write_space(
-    alloc: Global,
-    out: &mut String,
-    space: &Space,
-    margin: &str,
-) -> Result<(), NoMemory>
+fn write_space(alloc: Global, out: &mut String, space: &Space, margin: &str) -> Result<(), NoMemory>
     ensures { OnOk result (string_bytes out.new ≡ followed (string_bytes out.old) (space_laid space.now margin.now)) }
 {
     match space {

@@ -14,6 +14,7 @@ use dc_base::{NoMemory, Text};
 use std::alloc::Global;
 
 /// The blanks before a line at so many levels.
+#[tactic(auto, using(crate::proofs::Margins::one_more_level))]
 fn margin(alloc: Global, indent: u32) -> Result<String, NoMemory>
     ensures { IfOk result (λ text. string_bytes text ≡ margin_of indent) }
 {
