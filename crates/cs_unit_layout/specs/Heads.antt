@@ -15,7 +15,7 @@ use Rattle.cs_tree.specs.declared.declarations.Kind.TheVariants as kind
 use Rattle.cs_written.specs.Spelled.{hex_spelled}
 use Rattle.cs_layout.specs.declared.fixed.Fixed.TheVariants as part
 use Rattle.cs_layout.specs.Pieces.{Piece, gap, blank, sign, keyword, word}
-use Rattle.cs_layout.specs.Words.{fixed, path, type_pieces, listed, more_listed, param_pieces}
+use Rattle.cs_layout.specs.Words.{fixed, path, type_pieces, listed, param_pieces}
 use Rattle.cs_layout.specs.Layout.{line}
 use Rattle.cs_unit_layout.specs.declared.headwords.Headword.{Headword}
 use Rattle.cs_unit_layout.specs.declared.headwords.Headword.TheVariants as begin

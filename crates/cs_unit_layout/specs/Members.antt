@@ -1,5 +1,5 @@
 -- The layout of members (ECMA-334, clause 15): each on lines of its own behind its margin, a block from brace to brace.
-use Rattle.std.specs.Prelude.{ℕ, List, [], ◌∷◌, ◌++◌, map, Option, Some, None}
+use Rattle.std.specs.Prelude.{ℕ, List, [], ◌++◌, map, Option, Some, None}
 use Rattle.cs_tree.specs.declared.types.Name.{Name}
 use Rattle.cs_tree.specs.declared.types.Param.{Param}
 use Rattle.cs_tree.specs.declared.types.TypeForm.{TypeForm}

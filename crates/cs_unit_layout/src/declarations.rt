@@ -11,9 +11,7 @@ ghost use Rattle.cs_unit_layout.specs.declared.headwords.Headword.TheVariants.{N
 
 use crate::heads::{write_enclosed_params, write_flag, write_mods, write_result};
 use crate::headwords::{Headword, write_headword};
-use cs_layout::{
-    Fixed, write_comma, write_fixed, write_name, write_path, write_type,
-};
+use cs_layout::{Fixed, write_comma, write_fixed, write_name, write_path, write_type};
 use cs_lines::write_indent;
 use cs_token::Suffix;
 use cs_tree::{Enumerator, Kind, Mods, Name, Param, Path, TypeForm};
