@@ -6,7 +6,7 @@ ghost use Rattle.cs_layout.specs.Pieces.{followed};
 ghost use Rattle.cs_layout.specs.Words.{fixed};
 ghost use Rattle.cs_layout.specs.Layout.{arg_laid, arguments, line};
 ghost use Rattle.cs_layout.specs.declared.fixed.Fixed.TheVariants.{Otherwise, Semicolon};
-ghost use Rattle.cs_unit_layout.specs.Heads.{headword, mods_pieces};
+ghost use Rattle.cs_unit_layout.specs.Heads.{headword};
 ghost use Rattle.cs_unit_layout.specs.Members.{accessor_laid, accessors_laid, block_behind, body_behind, bodied, constant_laid, constructor_laid, field_laid, indexer_head, initial_pieces, initial_value, initializer_laid, maker_head, member_laid, method_head, operator_head, property_laid};
 
 use cs_forms::{write_arguments, write_block, write_form};
