@@ -2,12 +2,12 @@
 -- sign::signs_of
 pub mod Told
 -- open::none_open, open::with_open, open::closed
--- pub mod Put
+pub mod Put
 -- open::opened
--- pub mod Opening
+pub mod Opening
 -- open::closed
--- pub mod Closing
+pub mod Closing
 -- alike::innermost_alike
--- pub mod Hunt
+pub mod Hunt
 -- of the crates above: what is open is what stands in the base chain
--- pub mod Path
+pub mod Path

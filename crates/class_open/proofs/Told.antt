@@ -1,5 +1,5 @@
 -- Members alike have one key, and so one number.
-use Rattle.std.proofs.Common.{◌≡◌, ℕ, ◌<◌, ◌≤◌, Bool, ◌+◌, true, eqb, Some, None, List, [], ◌∷◌, ◌++◌, length, map, refl, sym, ◌∙◌, ap, subst, inl, inr, arith, rules}
+use Rattle.std.proofs.Common.{◌≡◌, ℕ, ◌≤◌, Bool, ◌+◌, eqb, Some, None, List, [], ◌∷◌, ◌++◌, length, map, refl, sym, ◌∙◌, ap, subst, inl, inr, arith, rules}
 use Rattle.std.specs.Bool.{Decides}
 use Rattle.std.specs.List.{slice_get}
 use Rattle.std.proofs.lemmas.Bool.{cases_lt}
@@ -17,7 +17,6 @@ use Rattle.class_rows.specs.declared.row.TypeRow.{TypeRow}
 use Rattle.class_rows.specs.declared.row.MemberRow.{MemberRow}
 use Rattle.class_rows.specs.declared.row.Sort.{Sort}
 use Rattle.class_rows.specs.declared.row.Param.{Param}
-use Rattle.class_rows.specs.Members.{types_of}
 use Rattle.class_rows.specs.Implemented.{AreAlike, AreOneList}
 use Rattle.class_rows.specs.contracts.row.SortPartialEq.TheImpl as sort_impl
 use Rattle.class_open.specs.declared.sign.Key.{Key}

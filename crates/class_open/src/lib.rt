@@ -6,6 +6,10 @@
 //! ```
 #![tactic(auto)]
 
+mod alike;
+mod open;
 mod sign;
 
+pub use alike::innermost_alike;
+pub use open::{Open, closed, none_open, opened};
 pub use sign::signs_of;

@@ -1,4 +1,4 @@
-use Rattle.std.proofs.Common.{refl, sym, subst, length, List, ℕ, Vec, Global}
+use Rattle.std.proofs.Common.{sym, subst, length, List, ℕ, Vec, Global}
 use Rattle.std.proofs.lemmas.Result.{IfOk-weaker}
 use Rattle.class_open.specs.declared.sign.Key.{Key}
 use Rattle.class_open.specs.Signs.{AreKeys}
