@@ -1,17 +1,25 @@
 -- Which calls cite each file in the proof of their clauses.
--- pairs::pairs_of, pairs::has_pair
-pub mod Pairing
--- chain::open_in, chain::open_among, chain::open_from, whole::missing_in_class
+-- explicit::by_type, explicit::with_pair
+pub mod ByType
+-- known::implicit_of
+pub mod Flags
+-- marked::with_marks
+pub mod Marking
+-- standing::none_standing, standing::entered, standing::left
+pub mod Stand
+-- chain::is_done
+pub mod Done
+-- chain::open_in, chain::open_among, chain::open_from, missing::missing_in_class
 pub mod Least
--- own::has_implementer
-pub mod Implementers
 -- chain::open_from
 pub mod Interfaces
 -- chain::open_one, chain::open_in, chain::open_among, chain::open_from
 pub mod Open
--- whole::with_clean, passed::with_one
+-- walked::with_clean, passed::with_one
 pub mod Marks
 -- passed::is_passed, passed::passed_by
 pub mod Passing
--- chain::is_done, whole::missing_in_class
+-- missing::missing_in_class
 pub mod Up
+-- walked::least_of_each, walked::stepped, walked::with_type, walked::without_type
+pub mod Steps

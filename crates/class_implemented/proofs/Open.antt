@@ -7,7 +7,7 @@ use Rattle.class_keys.specs.Least.{IsLeastOf, lesser_of}
 use Rattle.class_rows.specs.Types.{IsNamed, NamesInterface}
 use Rattle.class_rows.specs.Members.{IsOf}
 use Rattle.class_spread.specs.declared.spread.Spread.{Spread}
-use Rattle.class_implemented.specs.declared.own.Known.{Known}
+use Rattle.class_implemented.specs.declared.known.Known.{Known}
 use Rattle.class_implemented.specs.Known.{IsKnown}
 use Rattle.class_implemented.specs.Open.{IsOpen, IsOpenIn, IsOpenAmong, IsOpenFrom, IsPassed}
 use Rattle.class_implemented.proofs.Least.{IsSoFar, IsFrom, so_far_begins, so_far_more, so_far_ends, from_next, from_end}

@@ -5,7 +5,7 @@ use Rattle.class_chains.specs.Ends.{further}
 use Rattle.class_rows.specs.declared.row.TypeRow.{TypeRow}
 use Rattle.class_rows.specs.Types.{IsBase, NamesInterface, directly, in_turn}
 use Rattle.class_spread.specs.declared.spread.Spread.{Spread}
-use Rattle.class_implemented.specs.declared.own.Known.{Known}
+use Rattle.class_implemented.specs.declared.known.Known.{Known}
 use Rattle.class_implemented.specs.Known.{IsKnown}
 use Rattle.class_implemented.specs.Open.{IsOpen, IsOpenFrom, IsPassed, ArePassed, IsMarkedWith}
 use Rattle.class_implemented.proofs.Interfaces.{index_has, own_named, link_named}

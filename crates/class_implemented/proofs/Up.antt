@@ -1,4 +1,4 @@
--- Walks up the base chain: to a type that has an implementer, and for what is missing.
+-- A walk up the base chain for what is missing.
 use Rattle.std.proofs.Common.{◌≡◌, ◌⊎◌, ℕ, ◌<◌, Bool, true, Option, Some, None, List, length, inl, inr, sym, subst, ◌∙◌}
 use Rattle.std.specs.List.{slice_get}
 use Rattle.std.proofs.lemmas.Option.{slice_get_within}
@@ -9,38 +9,10 @@ use Rattle.class_rows.specs.declared.row.TypeRow.{TypeRow}
 use Rattle.class_rows.specs.declared.row.MemberRow.{MemberRow}
 use Rattle.class_rows.specs.Types.{HasType, IsBase, IsClass, InBaseChain}
 use Rattle.class_rows.specs.Implemented.{IsImplementer}
-use Rattle.class_implemented.specs.declared.own.Known.{Known}
+use Rattle.class_implemented.specs.declared.known.Known.{Known}
 use Rattle.class_implemented.specs.Known.{IsKnown}
-use Rattle.class_implemented.specs.Open.{HasImplementer, IsDone, IsOpenFrom, IsOpenAbove, IsMissing, AreClean}
+use Rattle.class_implemented.specs.Open.{IsDone, IsOpenFrom, IsOpenAbove, IsMissing, AreClean}
 use Rattle.class_implemented.proofs.Least.{IsSoFar, so_far_begins, so_far_more, so_far_ends}
-
--- the walk from c stands here: there is an implementer above just where there is one above c
-pub record IsOnWay (known : Known) (c m at : ℕ) : Type 0 where
-  pub to_ : IsDone known at m → IsDone known c m
-  pub back : IsDone known c m → IsDone known at m
-
-pub way_begins : (known : Known) (c m : ℕ) → IsOnWay known c m c
-way_begins known c m = record { to_ = λ d. d; back = λ d. d }
-
-pub way_found : (known : Known) (c m at : ℕ) → IsOnWay known c m at → HasImplementer known at m → IsDone known c m
-way_found known c m at way has = way.to_ (at, here at, has)
-
-pub way_on : (known : Known) (c m at b : ℕ) → IsOnWay known c m at → (HasImplementer known at m → ⊥) → IsBase known.types.now at b → IsOnWay known c m b
-way_on known c m at b way off base = record {
-  to_ = λ d. way.to_ (d.0, further at b d.0 base d.1, d.2);
-  back = λ d. let up = way.back d in elim (reached (IsBase known.types.now) at up.0 up.1) [
-    | inl e ↦ absurd (off (subst (λ (n : ℕ). HasImplementer known n m) (sym e) up.2))
-    | inr s ↦ (up.0, subst (λ (n : ℕ). InBaseChain known.types.now n up.0) (one_base known.types.now at s.0 b s.1 base) s.2, up.2)
-  ];
-}
-
-pub way_ends : (known : Known) (c m at : ℕ) → IsOnWay known c m at → (HasImplementer known at m → ⊥) → ((b : ℕ) → IsBase known.types.now at b → ⊥) → IsDone known c m → ⊥
-way_ends known c m at way off top done =
-    let up = way.back done in
-    elim (reached (IsBase known.types.now) at up.0 up.1) [
-      | inl e ↦ off (subst (λ (n : ℕ). HasImplementer known n m) (sym e) up.2)
-      | inr s ↦ top s.0 s.1
-    ]
 
 -- two ways up in turn
 then_up : (up : ℕ → ℕ → Type 0) (s t u : ℕ) → Reaches up s t → Reaches up t u → Reaches up s u

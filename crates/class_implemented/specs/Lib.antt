@@ -1,4 +1,7 @@
 -- Inner facts: what the code goes by.
-pub mod Pairs
+pub mod Explicit
 pub mod Known
 pub mod Open
+pub mod Marked
+pub mod Standing
+pub mod Progress

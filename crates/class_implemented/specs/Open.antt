@@ -1,21 +1,12 @@
 -- Inner facts: which methods have no implementer.
 use Rattle.std.specs.Prelude.{◌≡◌, ◌≢◌, ◌⊎◌, ℕ, List, Option, Some, Bool, true, false, slice_get, Contains}
-use Rattle.class_rows.specs.declared.row.TypeRow.{TypeRow}
 use Rattle.class_rows.specs.declared.row.MemberRow.{MemberRow}
 use Rattle.class_rows.specs.declared.row.Access.TheVariants.{Public}
 use Rattle.class_rows.specs.declared.row.Sort.TheVariants.{Field as FieldSort}
 use Rattle.class_rows.specs.Types.{InBaseChain, NamesInterface}
 use Rattle.class_rows.specs.Members.{HasMember, IsOf, sort_of}
 use Rattle.class_rows.specs.Implemented.{AreAlike, IsUnimplemented}
-use Rattle.class_implemented.specs.declared.own.Known.{Known}
-
--- x is a public instance member like this one
-abbrev pub IsLike : List TypeRow → List MemberRow → ℕ → MemberRow → Type 0
-IsLike types members x due =
-    HasMember members x (λ row. (row.access ≡ Public) × (row.is_static ≡ false) × AreAlike types row due)
-
-abbrev pub HasLike : List TypeRow → List MemberRow → List ℕ → MemberRow → Type 0
-HasLike types members numbers due = (k : ℕ) × (x : ℕ) × (slice_get numbers k ≡ Some x) × IsLike types members x due
+use Rattle.class_implemented.specs.declared.known.Known.{Known}
 
 -- the type t itself has a member that implements m
 pub record HasImplementer (known : Known) (t m : ℕ) : Type 0 where

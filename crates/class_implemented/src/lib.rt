@@ -8,9 +8,13 @@
 #![tactic(auto)]
 
 mod chain;
-mod own;
-mod pairs;
+mod explicit;
+mod known;
+mod marked;
+mod missing;
 mod passed;
+mod standing;
+mod walked;
 mod whole;
 
 pub use whole::interfaces_are_implemented;

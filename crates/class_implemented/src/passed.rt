@@ -5,7 +5,7 @@ ghost use Rattle.std.specs.Prelude.{◌≡◌, ◌⊎◌, ◌<◌, ℕ, Some, Is
 ghost use Rattle.class_implemented.specs.Known.{IsKnown};
 ghost use Rattle.class_implemented.specs.Open.{IsOpenFrom, IsPassed, ArePassed, IsMarkedWith};
 
-use crate::own::Known;
+use crate::known::Known;
 use class_parts::base_of;
 use class_spread::spread_at;
 use dc_base::TypeId;

@@ -1,63 +1,42 @@
 -- A table of slots that is under way, the types from the bases down.
-use Rattle.std.proofs.Common.{◌≡◌, ◌⊎◌, ℕ, zero, suc, ◌+◌, ◌<◌, ◌≤◌, true, false, Some, List, [], ◌∷◌, length, set, eqb, get_or, inl, inr, sym, refl, ap, subst, ◌∙◌, arith}
+use Rattle.std.proofs.Common.{◌≡◌, ℕ, ◌+◌, ◌<◌, ◌≤◌, true, false, Some, List, length, set, eqb, get_or, inl, inr, sym, refl, ap, subst, ◌∙◌, arith}
 use Rattle.std.proofs.Math.ListN.{length-set}
 use Rattle.std.proofs.lemmas.Bool.{cases_lt, eqb-true, eqb-false}
 use Rattle.std.proofs.lemmas.Option.{slice_get_within, get_or_from_slice_get}
 use Rattle.std.specs.List.{slice_get}
 use Rattle.dc_base.specs.declared.names.MemberId.{MemberId}
-use Rattle.dc_base.specs.declared.names.TypeId.{TypeId}
 use Rattle.class_chains.proofs.Marks.{set_at}
 use Rattle.class_chains.specs.Ends.{here, further, IsAboveFirst}
-use Rattle.class_parts.proofs.Climb.{height, lower_base}
+use Rattle.class_keys.proofs.Items.{item_at}
+use Rattle.class_walk.specs.declared.walk.Step.{Step}
+use Rattle.class_walk.specs.declared.walk.Step.TheVariants.{Enter, Leave}
+use Rattle.class_walk.specs.Walk.{IsBelow, IsWholeWalk}
+use Rattle.class_open.specs.Trail.{Has, IsPath}
+use Rattle.class_open.proofs.Put.{set_other}
+use Rattle.class_open.proofs.Path.{one_owner, chain_apart, above_path}
 use Rattle.class_rows.specs.declared.row.TypeRow.{TypeRow}
 use Rattle.class_rows.specs.declared.row.MemberRow.{MemberRow}
 use Rattle.class_rows.specs.Types.{IsBase, IsAbove, InBaseChain}
 use Rattle.class_rows.specs.Members.{IsOf}
-use Rattle.class_rows.specs.Lookups.{IsOverridden, IsSlot, taken}
-use Rattle.class_slots.proofs.Like.{nearest_owner}
-use Rattle.class_slots.specs.Slots.{AreSlots, IsTold, AreSlotsOf, AreSlotsAbove, AreSlotsWith, IsSlotWritten, OwnersAreThere}
-
-set_other : {X : Type 0} (xs : List X) (i j : ℕ) (x : X) → (i ≡ j → ⊥) → slice_get (set xs i x) j ≡ slice_get xs j
-set_other [] i j x apart = refl
-set_other (y ∷ ys) zero zero x apart = absurd (apart refl)
-set_other (y ∷ ys) zero (suc j) x apart = refl
-set_other (y ∷ ys) (suc i) zero x apart = refl
-set_other (y ∷ ys) (suc i) (suc j) x apart = set_other ys i j x (λ e. apart (ap suc e))
-
-one_row : {X : Type 0} (xs : List X) (t : ℕ) (a b : X) → slice_get xs t ≡ Some a → slice_get xs t ≡ Some b → a ≡ b
-one_row xs t a b p q = let e : Some a ≡ Some b = sym p ∙ q in cc
-
-one_owner : (members : List MemberRow) (t u m : ℕ) → IsOf members t m → IsOf members u m → t ≡ u
-one_owner members t u m p q =
-    let e = one_row members m p.row q.row p.stands q.stands in
-    ap (λ (o : TypeId). o.0) (sym p.is ∙ ap (λ (r : MemberRow). r.owner) e ∙ q.is)
-
-owner_there : (types : List TypeRow) (members : List MemberRow) → OwnersAreThere types members → (t m : ℕ) → IsOf members t m → t < length types
-owner_there types members owners t m of_ =
-    subst (λ (n : ℕ). n < length types) (ap (λ (o : TypeId). o.0) of_.is) (owners m of_.row of_.stands)
-
-chain_lower : (types : List TypeRow) (order : List ℕ) → IsAboveFirst (IsAbove types) (length types) order → (b u : ℕ) → InBaseChain types b u → height (length types) order u ≤ height (length types) order b
-chain_lower types order first b u (here t) = omega arith
-chain_lower types order first b u (further t c a base rest) =
-    let up = lower_base types order t c first base in
-    let more = chain_lower types order first c a rest in
-    omega (arith, up, more)
-
--- a type is in no chain above itself
-chain_apart : (types : List TypeRow) (order : List ℕ) → IsAboveFirst (IsAbove types) (length types) order → (t b u : ℕ) → IsBase types t b → InBaseChain types b u → t ≡ u → ⊥
-chain_apart types order first t b u base chain e =
-    let up = lower_base types order t b first base in
-    let more = chain_lower types order first b u chain in
-    let same : height (length types) order t ≡ height (length types) order u = ap (λ (n : ℕ). height (length types) order n) e in
-    omega (arith, up, more, same)
+use Rattle.class_rows.specs.Lookups.{IsNearest, in_it, above, IsOverridden, IsSlot, taken}
+use Rattle.class_slots.proofs.Near.{owner_there}
+use Rattle.class_slots.specs.declared.known.Known.{Known}
+use Rattle.class_slots.specs.Slots.{AreSlots, OwnersAreThere}
+use Rattle.class_slots.specs.Told.{IsTold, AreSlotsOf, AreSlotsAbove, AreSlotsWith, IsSlotWritten}
+use Rattle.class_slots.specs.At.{AreTold, IsStepTold}
 
 module _ (types : List TypeRow) (members : List MemberRow) (explicit : List (MemberId × MemberId)) where
+  -- the owner of what is nearest is in the base chain
+  nearest_owner : (row : MemberRow) (t n : ℕ) → IsNearest types members explicit row t n → (u : ℕ) × InBaseChain types t u × IsOf members u n
+  nearest_owner row t n (in_it u k like) = (u, here u, record { row = like.0.row; stands = like.0.stands; is = like.0.is.0 })
+  nearest_owner row t n (above u b k off base rest) = let at = nearest_owner row b k rest in (at.0, further u b at.0 base at.1, at.2)
+
   -- the slot of what a member overrides stands already
   pub above_told : (slots : List ℕ) (t m n : ℕ) → AreSlotsAbove types members explicit slots t → IsOf members t m → IsOverridden types members explicit m n → IsTold types members explicit slots n
   above_told slots t m n above_ owned over =
       let owner : over.row.owner.0 ≡ t = one_owner members over.row.owner.0 t m (record { row = over.row; stands = over.stands; is = refl }) owned in
       let base = subst (λ (o : ℕ). IsBase types o over.b) owner over.base in
-      let at = nearest_owner types members explicit over.row over.b n over.nearest in
+      let at = nearest_owner over.row over.b n over.nearest in
       above_.above over.b at.0 base at.1 n at.2
 
   pub slot_taken : (slots : List ℕ) (m n d : ℕ) → IsOverridden types members explicit m n → IsTold types members explicit slots n → IsSlot types members explicit m (get_or slots n d)
@@ -116,60 +95,50 @@ module _ (types : List TypeRow) (members : List MemberRow) (explicit : List (Mem
     kept = way.kept;
   }
 
--- the types of an order, one by one
-abbrev pub AreTold : List TypeRow → List MemberRow → List (MemberId × MemberId) → List ℕ → List ℕ → ℕ → Type 0
-AreTold types members explicit order slots k = (j t : ℕ) → j < k → slice_get order j ≡ Some t → AreSlotsOf types members explicit slots t
-
--- a type that stands before a place of the order, or is past the list
-abbrev pub IsBefore : List TypeRow → List ℕ → ℕ → ℕ → Type 0
-IsBefore types order k t = ((j : ℕ) × (j < k) × (slice_get order j ≡ Some t)) ⊎ (length types ≤ t)
-
-base_before : (types : List TypeRow) (order : List ℕ) → IsAboveFirst (IsAbove types) (length types) order → (k t b : ℕ) → slice_get order k ≡ Some t → IsBase types t b → IsBefore types order k b
-base_before types order first k t b at base = elim (cases_lt b (length types)) [
-  | inl lt ↦ inl (first.above k t b at (inl base) lt)
-  | inr past ↦ inr past
-]
-
-chain_told : (types : List TypeRow) (members : List MemberRow) (explicit : List (MemberId × MemberId)) (order slots : List ℕ) → IsAboveFirst (IsAbove types) (length types) order → OwnersAreThere types members → (k b u : ℕ) → AreTold types members explicit order slots k → IsBefore types order k b → InBaseChain types b u → AreSlotsOf types members explicit slots u
-chain_told types members explicit order slots first owners k b u told (inl at) (here t) = told at.0 t at.1 at.2
-chain_told types members explicit order slots first owners k b u told (inr past) (here t) = λ m of_. let lt = owner_there types members owners t m of_ in absurd (omega (arith, lt, past))
-chain_told types members explicit order slots first owners k b u told (inl at) (further t c a base rest) =
-    chain_told types members explicit order slots first owners k c a told
-    (elim (base_before types order first at.0 t c at.2 base) [
-      | inl up ↦ inl (up.0, omega (arith, up.1, at.1), up.2)
-      | inr past ↦ inr past
-    ]) rest
-chain_told types members explicit order slots first owners k b u told (inr past) (further t c a base rest) =
-    let lt = slice_get_within types t base.row base.stands in absurd (omega (arith, lt, past))
-
-pub told_above : (types : List TypeRow) (members : List MemberRow) (explicit : List (MemberId × MemberId)) (order slots : List ℕ) → IsAboveFirst (IsAbove types) (length types) order → OwnersAreThere types members → length slots ≡ length members → (k t : ℕ) → slice_get order k ≡ Some t → AreTold types members explicit order slots k → AreSlotsAbove types members explicit slots t
-told_above types members explicit order slots first owners long k t at told = record {
+-- the slots of the members of the types above one are told, where its base is entered
+pub told_above : (types : List TypeRow) (members : List MemberRow) (explicit : List (MemberId × MemberId)) (slots path : List ℕ) (t : ℕ) → OwnersAreThere types members → IsPath types path → IsBelow types path t → length slots ≡ length members → ((u : ℕ) → Has path u → AreSlotsOf types members explicit slots u) → AreSlotsAbove types members explicit slots t
+told_above types members explicit slots path t owners chain below long told = record {
   long = long;
-  above = λ b u base chain. chain_told types members explicit order slots first owners k b u told (base_before types order first k t b at base) chain;
+  above = λ b u base up m of_. elim (above_path types t b u path chain below base up) [
+    | inl on ↦ told u on m of_
+    | inr past ↦ let lt = owner_there types members owners u m of_ in absurd (omega (arith, lt, past))
+  ];
 }
 
-pub told_more : (types : List TypeRow) (members : List MemberRow) (explicit : List (MemberId × MemberId)) (order before after : List ℕ) (k t : ℕ) → slice_get order k ≡ Some t → AreTold types members explicit order before k → AreSlotsWith types members explicit before after t → AreTold types members explicit order after (k + 1)
-told_more types members explicit order before after k t at told with_ j u lt there m of_ =
+-- what is told of a type stays when another one is
+pub told_with : (types : List TypeRow) (members : List MemberRow) (explicit : List (MemberId × MemberId)) (before after : List ℕ) (t u : ℕ) → AreSlotsWith types members explicit before after t → AreSlotsOf types members explicit before u → AreSlotsOf types members explicit after u
+told_with types members explicit before after t u with_ told m of_ =
     elim (eqb t u) as (λ b. eqb t u ≡ b → IsTold types members explicit after m) [
       | true ↦ λ e. with_.own m (subst (λ (n : ℕ). IsOf members n m) (sym (eqb-true t u e)) of_)
-      | false ↦ λ e. elim (cases_lt j k) [
-        | inl less ↦
-            let was = told j u less there m of_ in
-            (was.0, with_.kept m (λ mine. eqb-false t u e (one_owner members t u m mine of_)) ∙ was.1, was.2)
-        | inr ge ↦
-            let same : j ≡ k = omega arith in
-            let o : Some t ≡ Some u = sym at ∙ ap (λ (i : ℕ). slice_get order i) (sym same) ∙ there in
-            absurd (eqb-false t u e (some_number t u o))
-      ]
+      | false ↦ λ e. let was = told m of_ in (was.0, with_.kept m (λ mine. eqb-false t u e (one_owner members t u m mine of_)) ∙ was.1, was.2)
     ] refl
-  where
-    some_number : (a b : ℕ) → Some a ≡ Some b → a ≡ b
-    some_number a b h = cc
 
-at_row : (members : List MemberRow) (n : ℕ) → n < length members → (row : MemberRow) × (slice_get members n ≡ Some row)
-at_row [] n lt = absurd (omega arith)
-at_row (row ∷ members) zero lt = (row, refl)
-at_row (row ∷ members) (suc n) lt = at_row members n (omega arith)
+some_step : (a b : Step) → Some a ≡ Some b → a ≡ b
+some_step a b h = cc
+
+entered_same : (t u : ℕ) (a b : Step) → a ≡ Enter (record { 0 = t }) → b ≡ Enter (record { 0 = u }) → a ≡ b → t ≡ u
+entered_same t u a b p q e = let o : Enter (record { 0 = t }) ≡ Enter (record { 0 = u }) = sym p ∙ e ∙ q in ap number o
+  where
+    number : Step → ℕ
+    number (Enter i) = i.0
+    number (Leave i) = i.0
+
+pub told_more : (known : Known) (steps : List Step) (before after : List ℕ) (k : ℕ) (step : Step) → slice_get steps k ≡ Some step → AreTold known.types.now known.members.now known.explicit.now steps before k → IsStepTold known step before after → AreTold known.types.now known.members.now known.explicit.now steps after (k + 1)
+told_more known steps before after k (Enter t) at told with_ j u lt there = elim (cases_lt j k) [
+  | inl less ↦ told_with known.types.now known.members.now known.explicit.now before after t.0 u with_ (told j u less there)
+  | inr ge ↦
+      let same : j ≡ k = omega (arith, ge, lt) in
+      let e : Enter t ≡ Enter (record { 0 = u }) = some_step _ _ (sym at ∙ ap (λ (i : ℕ). slice_get steps i) (sym same) ∙ there) in
+      let o : t.0 ≡ u = entered_same t.0 u (Enter t) (Enter (record { 0 = u })) refl refl e in
+      subst (λ (n : ℕ). AreSlotsOf known.types.now known.members.now known.explicit.now after n) o with_.own
+]
+told_more known steps before after k (Leave t) at told same_ j u lt there = elim (cases_lt j k) [
+  | inl less ↦ subst (λ (l : List ℕ). AreSlotsOf known.types.now known.members.now known.explicit.now l u) (sym same_) (told j u less there)
+  | inr ge ↦
+      let same : j ≡ k = omega (arith, ge, lt) in
+      let e : Leave t ≡ Enter (record { 0 = u }) = some_step _ _ (sym at ∙ ap (λ (i : ℕ). slice_get steps i) (sym same) ∙ there) in
+      absurd cc
+]
 
 told_is : (types : List TypeRow) (members : List MemberRow) (explicit : List (MemberId × MemberId)) (slots : List ℕ) (m s : ℕ) → IsTold types members explicit slots m → slice_get slots m ≡ Some s → IsSlot types members explicit m s
 told_is types members explicit slots m s told at = subst (λ (n : ℕ). IsSlot types members explicit m n) (some_number told.0 s (sym told.1 ∙ at)) told.2
@@ -177,13 +146,13 @@ told_is types members explicit slots m s told at = subst (λ (n : ℕ). IsSlot t
     some_number : (a b : ℕ) → Some a ≡ Some b → a ≡ b
     some_number a b h = cc
 
-pub all_told : (types : List TypeRow) (members : List MemberRow) (explicit : List (MemberId × MemberId)) (order slots : List ℕ) → IsAboveFirst (IsAbove types) (length types) order → OwnersAreThere types members → length slots ≡ length members → (k : ℕ) → length order ≤ k → AreTold types members explicit order slots k → AreSlots types members explicit slots
-all_told types members explicit order slots first owners long k le told = record {
+pub all_told : (types : List TypeRow) (members : List MemberRow) (explicit : List (MemberId × MemberId)) (steps : List Step) (slots : List ℕ) → IsWholeWalk types steps → OwnersAreThere types members → length slots ≡ length members → (k : ℕ) → length steps ≤ k → AreTold types members explicit steps slots k → AreSlots types members explicit slots
+all_told types members explicit steps slots whole owners long k le told = record {
   long = long;
   right = λ m s at.
-      let row = at_row members m (omega (arith, slice_get_within slots m s at, long)) in
+      let row = item_at members m (omega (arith, slice_get_within slots m s at, long)) in
       let of_ : IsOf members row.0.owner.0 m = record { row = row.0; stands = row.1; is = refl } in
-      let place = first.all row.0.owner.0 (owners m row.0 row.1) in
-      let mine = told place.0 row.0.owner.0 (omega (arith, slice_get_within order place.0 row.0.owner.0 place.1, le)) place.1 m of_ in
+      let place = whole.whole row.0.owner.0 (owners m row.0 row.1) in
+      let mine = told place.0 row.0.owner.0 (omega (arith, slice_get_within steps place.0 _ place.1, le)) place.1 m of_ in
       told_is types members explicit slots m s mine at;
 }

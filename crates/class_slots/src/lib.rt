@@ -5,7 +5,9 @@
 //! ```
 #![tactic(auto)]
 
+mod known;
 mod overridden;
 mod slots;
+mod walked;
 
 pub use slots::{slot, slots_of};

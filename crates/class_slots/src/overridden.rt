@@ -1,41 +1,29 @@
 // The method that a method overrides.
 
-ghost use Rattle.std.specs.Prelude.{◌≡◌, ◌≢◌, ◌<◌, ℕ, IsTrue, IfSome, IfNone, Some, false, length, slice_get};
-ghost use Rattle.dc_base.specs.declared.names.MemberId.{MemberId};
-ghost use Rattle.class_rows.specs.declared.row.Virt.{Virt};
-ghost use Rattle.class_rows.specs.Members.{HasMember};
-ghost use Rattle.class_rows.specs.Implemented.{AreAlike};
-ghost use Rattle.class_rows.specs.Lookups.{TakesOver, IsVirtualLike, IsNearest, IsOverridden};
-ghost use Rattle.class_parts.specs.Orders.{AreOrders};
-ghost use Rattle.class_alike.specs.Named.{IsNamed};
-ghost use Rattle.class_slots.specs.Slots.{IsLike};
+ghost use Rattle.std.specs.Prelude.{◌≡◌, ℕ, IsTrue, IfSome, IfNone};
+ghost use Rattle.class_rows.specs.Members.{IsOf};
+ghost use Rattle.class_rows.specs.Lookups.{TakesOver, IsOverridden};
+ghost use Rattle.class_slots.specs.Known.{IsKnown, IsOpenAbove};
 
-use class_alike::{Named, are_alike, has_name};
-use class_index::known_name;
-use class_parts::{Orders, base_of};
-use class_rows::{MemberRow, TypeRow, Virt};
-use dc_base::{MemberId, TypeId};
+use crate::known::Known;
+use class_open::{Open, innermost_alike};
+use class_rows::Virt;
+use dc_base::TypeId;
 
-/// The member that an override overrides: the nearest virtual method like it, from the base of its type up.
-pub fn overridden(
-    types: &[TypeRow],
-    members: &[MemberRow],
-    explicit: &[(MemberId, MemberId)],
-    orders: &Orders,
-    named: &Named,
-    m: u32,
-) -> Option<u32>
-    requires orders { AreOrders types.now orders.now }
-    requires named { IsNamed types.now members.now explicit.now named.now }
-    ensures some { IfSome result (λ n. IsOverridden types.now members.now explicit.now m n) }
-    ensures none { IfNone result ((n : ℕ) → IsOverridden types.now members.now explicit.now m n → ⊥) }
+/// The member that an override of the type `t` overrides: the innermost virtual method like it of those that stand open above
+/// the type.
+pub fn overridden(known: &Known, stacks: &Open, t: TypeId, m: u32) -> Option<u32>
+    requires known { IsKnown known.now }
+    requires above { IsOpenAbove known.now stacks.now t.0 }
+    requires owned { IsOf known.now.members.now t.0 m }
+    ensures some { IfSome result (λ n. IsOverridden known.now.types.now known.now.members.now known.now.explicit.now m n) }
+    ensures none { IfNone result ((n : ℕ) → IsOverridden known.now.types.now known.now.members.now known.now.explicit.now m n → ⊥) }
 {
-    let row = members.get(m as usize)?;
+    let row = known.members.get(m as usize)?;
     if !takes_over(row.virt) {
         return None;
     }
-    let base = base_of(types, row.owner)?;
-    nearest(types, members, explicit, orders, named, row, base)
+    innermost_alike(known.types, known.members, known.signs, stacks, m, row)
 }
 
 fn takes_over(virt: Virt) -> bool
@@ -46,89 +34,6 @@ fn takes_over(virt: Virt) -> bool
         Virt::Plain => false,
         Virt::Virtual => false,
         Virt::Abstract => false,
-        Virt::Override => true,
-        Virt::SealedOverride => true,
-    }
-}
-
-fn nearest(
-    types: &[TypeRow],
-    members: &[MemberRow],
-    explicit: &[(MemberId, MemberId)],
-    orders: &Orders,
-    named: &Named,
-    row: &MemberRow,
-    from: TypeId,
-) -> Option<u32>
-    requires orders { AreOrders types.now orders.now }
-    requires named { IsNamed types.now members.now explicit.now named.now }
-    ensures some { IfSome result (λ n. IsNearest types.now members.now explicit.now row.now from.0 n) }
-    ensures none { IfNone result ((n : ℕ) → IsNearest types.now members.now explicit.now row.now from.0 n → ⊥) }
-{
-    let mut at = from;
-    loop {
-        if let Some(n) = virtual_like_in(types, members, explicit, named, row, at) {
-            return Some(n);
-        }
-        at = base_of(types, at)?;
-    }
-}
-
-// The first virtual method of a type that is like a member.
-fn virtual_like_in(
-    types: &[TypeRow],
-    members: &[MemberRow],
-    explicit: &[(MemberId, MemberId)],
-    named: &Named,
-    row: &MemberRow,
-    t: TypeId,
-) -> Option<u32>
-    requires { IsNamed types.now members.now explicit.now named.now }
-    ensures some { IfSome result (λ n. IsVirtualLike types.now members.now explicit.now row.now t.0 n) }
-    ensures none { IfNone result ((n : ℕ) → IsVirtualLike types.now members.now explicit.now row.now t.0 n → ⊥) }
-{
-    for n in named.index.of_name(members, t, known_name(row)) {
-        if is_virtual_like(types, members, explicit, named, row, *n) {
-            return Some(*n);
-        }
-    }
-    None
-}
-
-// Whether a member of a type is a virtual method with a name that is like another member.
-fn is_virtual_like(
-    types: &[TypeRow],
-    members: &[MemberRow],
-    explicit: &[(MemberId, MemberId)],
-    named: &Named,
-    row: &MemberRow,
-    n: u32,
-) -> bool
-    requires { IsNamed types.now members.now explicit.now named.now }
-    ensures yes { IsTrue result → IsLike types.now members.now explicit.now row.now n }
-    ensures no { IsLike types.now members.now explicit.now row.now n → IsTrue result }
-{
-    match members.get(n as usize) {
-        Some(other) => { is_virtual(other) && are_alike(types, other, row) && has_name(named, n) }
-        None => false,
-    }
-}
-
-fn is_virtual(row: &MemberRow) -> bool
-    ensures yes { IsTrue result → (row.now.virt ≢ Virt.Plain) × (row.now.is_static ≡ false) }
-    ensures no { (row.now.virt ≢ Virt.Plain) × (row.now.is_static ≡ false) → IsTrue result }
-{
-    !row.is_static && is_not_plain(row.virt)
-}
-
-fn is_not_plain(virt: Virt) -> bool
-    ensures yes { IsTrue result → virt ≢ Virt.Plain }
-    ensures no { virt ≢ Virt.Plain → IsTrue result }
-{
-    match virt {
-        Virt::Plain => false,
-        Virt::Virtual => true,
-        Virt::Abstract => true,
         Virt::Override => true,
         Virt::SealedOverride => true,
     }

@@ -1,22 +1,24 @@
 // The slot of each member, the types from the bases down.
 
-ghost use Rattle.std.specs.Prelude.{◌≡◌, ◌<◌, ◌≤◌, ◌^◌, ℕ, IfOk, length, slice_get, Some};
-ghost use Rattle.std.specs.List.{Contains};
-ghost use Rattle.class_rows.specs.Members.{IsOf};
+ghost use Rattle.std.specs.Prelude.{◌≡◌, ◌<◌, ◌^◌, ℕ, IfOk, length};
 ghost use Rattle.class_rows.specs.Lookups.{IsSlot};
 ghost use Rattle.class_parts.specs.Orders.{AreOrders};
 ghost use Rattle.class_alike.specs.Named.{IsNamed};
-ghost use Rattle.class_slots.specs.Slots.{AreSlots, AreSlotsAbove, AreSlotsWith, IsSlotWritten, OwnersAreThere};
+ghost use Rattle.class_slots.specs.Slots.{AreSlots, OwnersAreThere};
+ghost use Rattle.class_slots.specs.Known.{IsKnown};
 
-use crate::overridden::overridden;
+use crate::known::{Known, virtuals_of};
+use crate::walked::{Progress, stepped};
 use class_alike::Named;
+use class_open::{none_open, signs_of};
 use class_parts::Orders;
 use class_rows::{MemberRow, TypeRow};
-use dc_base::{MemberId, NoMemory, Seq, TypeId};
+use class_walk::walk_of;
+use dc_base::{MemberId, NoMemory, Seq};
 use std::alloc::Global;
 
-/// The slot of each member. For each override it takes the time of the base chain up to the nearest method that it
-/// overrides.
+/// The slot of each member. It takes the time of one walk over the types and their members, where no two members of a base
+/// chain differ in `ref` and `out` alone.
 pub fn slots_of(
     alloc: Global,
     types: &[TypeRow],
@@ -25,17 +27,40 @@ pub fn slots_of(
     orders: &Orders,
     named: &Named,
 ) -> Result<Seq<u32>, NoMemory>
+    requires few { length types.now < 2 ^ 32 }
     requires short { length members.now < 2 ^ 32 }
     requires orders { AreOrders types.now orders.now }
     requires named { IsNamed types.now members.now explicit.now named.now }
     requires owners { OwnersAreThere types.now members.now }
     ensures { IfOk result (AreSlots types.now members.now explicit.now) }
 {
-    let mut slots = vec![in alloc; 0; members.len()]?;
-    for t in orders.bases.items() {
-        slots = with_slots_of(types, members, explicit, orders, named, slots, TypeId(*t));
+    let signs = signs_of(alloc, members)?;
+    let virtuals = virtuals_of(alloc, types, members, explicit, named)?;
+    let known = Known {
+        types,
+        members,
+        explicit,
+        order: orders.bases.items(),
+        named,
+        signs: signs.as_slice(),
+        virtuals: virtuals.as_slice(),
+    };
+    slots_on_walk(alloc, &known)
+}
+
+fn slots_on_walk(alloc: Global, known: &Known) -> Result<Seq<u32>, NoMemory>
+    requires few { length known.now.types.now < 2 ^ 32 }
+    requires known { IsKnown known.now }
+    ensures { IfOk result (AreSlots known.now.types.now known.now.members.now known.now.explicit.now) }
+{
+    let walk = walk_of(alloc, known.types, known.order)?;
+    let slots = vec![in alloc; 0; known.members.len()]?;
+    let stacks = none_open(alloc, known.signs)?;
+    let mut progress = Progress { stacks, slots };
+    for step in walk.as_slice() {
+        progress = stepped(known, progress, *step)?;
     }
-    Ok(Seq::of(slots))
+    Ok(Seq::of(progress.slots))
 }
 
 /// The member that introduced a member's slot; the member itself where it takes none over.
@@ -51,81 +76,4 @@ pub fn slot(
     ensures { IsSlot types.now members.now explicit.now m.0 result.0 }
 {
     MemberId(slots.items()[m.0 as usize])
-}
-
-// The slots with those of a type, where those of the types above it stand already.
-fn with_slots_of(
-    types: &[TypeRow],
-    members: &[MemberRow],
-    explicit: &[(MemberId, MemberId)],
-    orders: &Orders,
-    named: &Named,
-    slots: Vec<u32>,
-    t: TypeId,
-) -> Vec<u32>
-    requires short { length members.now < 2 ^ 32 }
-    requires orders { AreOrders types.now orders.now }
-    requires named { IsNamed types.now members.now explicit.now named.now }
-    requires above { AreSlotsAbove types.now members.now explicit.now slots.items t.0 }
-    ensures { AreSlotsWith types.now members.now explicit.now slots.items result.items t.0 }
-{
-    let mut slots = slots;
-    for m in named.index.of_owner(members, t) {
-        slots = with_slot(types, members, explicit, orders, named, slots, t, *m);
-    }
-    slots
-}
-
-// The slots with that of a member of the type.
-fn with_slot(
-    types: &[TypeRow],
-    members: &[MemberRow],
-    explicit: &[(MemberId, MemberId)],
-    orders: &Orders,
-    named: &Named,
-    slots: Vec<u32>,
-    t: TypeId,
-    m: u32,
-) -> Vec<u32>
-    requires orders { AreOrders types.now orders.now }
-    requires named { IsNamed types.now members.now explicit.now named.now }
-    requires above { AreSlotsAbove types.now members.now explicit.now slots.items t.0 }
-    requires owned { IsOf members.now t.0 m }
-    ensures { IsSlotWritten types.now members.now explicit.now slots.items result.items m }
-{
-    let mut slots = slots;
-    let slot = slot_of(
-        types,
-        members,
-        explicit,
-        orders,
-        named,
-        slots.as_slice(),
-        t,
-        m,
-    );
-    slots[m as usize] = slot;
-    slots
-}
-
-fn slot_of(
-    types: &[TypeRow],
-    members: &[MemberRow],
-    explicit: &[(MemberId, MemberId)],
-    orders: &Orders,
-    named: &Named,
-    slots: &[u32],
-    t: TypeId,
-    m: u32,
-) -> u32
-    requires orders { AreOrders types.now orders.now }
-    requires named { IsNamed types.now members.now explicit.now named.now }
-    requires above { AreSlotsAbove types.now members.now explicit.now slots.now t.0 }
-    requires owned { IsOf members.now t.0 m }
-    ensures { IsSlot types.now members.now explicit.now m result }
-{
-    match overridden(types, members, explicit, orders, named, m) {
-        Some(n) => slots[n as usize],
-        None => m,
-    }
 }

@@ -1,14 +1,12 @@
-use Rattle.std.proofs.Common.{ℕ, Bool, Option, List, inl, inr, refl, sym, subst, arith}
+use Rattle.std.proofs.Common.{ℕ, Option, List, inl, inr, refl, sym, subst, arith}
 use Rattle.std.proofs.lemmas.Bool.{cases_lt}
 use Rattle.std.proofs.lemmas.Option.{slice_get_within}
-use Rattle.class_implemented.specs.Open.{AreClean, ArePassed, IsMissing}
+use Rattle.class_implemented.specs.Open.{IsMissing}
+use Rattle.class_implemented.specs.Progress.{AreLeast}
 use Rattle.class_implemented.proofs.whole.all_are_implemented.Goals as goal
 
-pub missing-requires-clause-clean : goal.missing-requires-clause-clean
-missing-requires-clause-clean c = subst (λ (marks : List Bool). AreClean c.args.known.now marks) (sym c.as_slice-clean.ensures.value) c.in_ok-marks.ensures.clean
-
-pub missing-requires-clause-passed : goal.missing-requires-clause-passed
-missing-requires-clause-passed c = subst (λ (marks : List (Option ℕ)). ArePassed c.args.known.now marks) (sym c.as_slice-passed.ensures.value) c.in_ok-marks.ensures.passed
+pub missing_at-requires-clause-least : goal.missing_at-requires-clause-least
+missing_at-requires-clause-least c = subst (λ (least : List (Option ℕ)). AreLeast c.args.known.now least) (sym c.as_slice-least.ensures.value) c.in_ok-each.ensures
 
 pub overflow_cast-result-in-Some : goal.overflow_cast-result-in-Some
 overflow_cast-result-in-Some c =
