@@ -15,7 +15,12 @@ use dc_base::Boxed;
 use std::alloc::{AllocError, Global};
 
 /// `a + b`
-pub(crate) fn two(alloc: Global, left: OnHeap, kind: u16, right: Measured) -> Result<Measured, AllocError>
+pub(crate) fn two(
+    alloc: Global,
+    left: OnHeap,
+    kind: u16,
+    right: Measured,
+) -> Result<Measured, AllocError>
     requires left { left.height < 65536 }
     requires right { right.height < 65536 }
     ensures { IfOk result (λ m. m ≡ raised_of (max left.height right.height) (Binary left.spot (binary_of kind) left.form right.form) left.spot) }

@@ -268,7 +268,14 @@ pub fn conditional_or<F: Fn(Global, &mut Cursor<Token>, Ask) -> Result<Got, Or<F
     ensures { Reads ((conditional_or_of level.now.at.left (inner_of level.now.at) first).reads tokens.old) result tokens.new }
 {
     let left = conditional_and(level, alloc, tokens, first)?;
-    binaries(level, alloc, tokens, &[EITHER_ONE], Part::ConditionalAnd, left)
+    binaries(
+        level,
+        alloc,
+        tokens,
+        &[EITHER_ONE],
+        Part::ConditionalAnd,
+        left,
+    )
 }
 
 fn choosing<F: Fn(Global, &mut Cursor<Token>, Ask) -> Result<Got, Or<Fault>>>(

@@ -1,4 +1,4 @@
-use Rattle.std.proofs.Common.{◌≡◌, ◌-◌, rules, [], ◌∷◌, sym, ◌∙◌, nat_lt, Err, arith}
+use Rattle.std.proofs.Common.{◌≡◌, ◌-◌, rules, sym, ◌∙◌, nat_lt, Err, arith}
 use Rattle.std.proofs.lemmas.Bool.{lt-ltb}
 use Rattle.cs_productions.specs.declared.values.Measured.{Measured}
 use Rattle.cs_grammar.proofs.Turns.{round_on, stop}

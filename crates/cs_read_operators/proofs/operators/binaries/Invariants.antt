@@ -1,5 +1,5 @@
 -- So far the expression is what is read in the rounds that are left.
-use Rattle.std.proofs.Common.{◌≡◌, ◌-◌, [], ◌∷◌, nat_lt}
+use Rattle.std.proofs.Common.{◌≡◌, ◌-◌, nat_lt}
 use Rattle.cs_productions.specs.declared.values.Measured.{Measured}
 use Rattle.cs_grammar.specs.Grammar.{read_rounds}
 use Rattle.cs_productions.specs.Tokens.{kind}
