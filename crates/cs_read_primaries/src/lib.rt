@@ -8,4 +8,7 @@
 mod nodes;
 mod primaries;
 
-pub use primaries::{called_path, of_base, of_checked, of_default, of_global, of_new, of_simple};
+pub use primaries::{
+    blocks_here, called_path, of_base, of_checked, of_default, of_global, of_new, of_simple,
+    ranks_here,
+};

@@ -25,10 +25,17 @@ use dc_base::{Or, Seq, Text};
 use std::alloc::Global;
 
 /// How many pairs of brackets a type may have.
-fn ranks_here<F>(level: &Level<F>) -> u16
+pub fn ranks_here<F>(level: &Level<F>) -> u16
     ensures { result ≡ (inner_of level.now.at).ranks }
 {
     level.at.ranks
+}
+
+/// How many blocks may be opened in one another from here on.
+pub fn blocks_here<F>(level: &Level<F>) -> u16
+    ensures { result ≡ (inner_of level.now.at).blocks }
+{
+    level.at.blocks
 }
 
 fn base_member<F: Fn(Global, &mut Cursor<Token>, Ask) -> Result<Got, Or<Fault>>>(

@@ -1,0 +1,2 @@
+-- A production at one level in two parts.
+pub mod InTwo
