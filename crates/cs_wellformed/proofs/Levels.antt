@@ -1,5 +1,5 @@
 -- The rows, each by how tightly its parts bind.
-use Rattle.std.proofs.Common.{◌≡◌, ℕ, ◌+◌, max, ◌||◌, ◌&&◌, nat_lt, ap, subst, refl, ◌∙◌, arith}
+use Rattle.std.proofs.Common.{◌≡◌, ℕ, ◌+◌, max, ◌||◌, nat_lt, ap, subst, ◌∙◌, arith}
 use Rattle.cs_tree.specs.declared.forms.Form.{Form}
 use Rattle.cs_tree.specs.declared.forms.Form.TheVariants as form
 use Rattle.cs_tree.specs.declared.forms.UnaryOp.TheVariants as unary_op

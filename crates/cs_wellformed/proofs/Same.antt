@@ -1,5 +1,5 @@
 -- Trees of the same parts are the same but for places.
-use Rattle.std.proofs.Common.{◌≡◌, ℕ, List, map, Option, Some, None, sym, ◌∙◌, ap}
+use Rattle.std.proofs.Common.{◌≡◌, ℕ, List, map, Option, sym, ◌∙◌, ap}
 use Rattle.std.specs.Option.{option_map}
 use Rattle.cs_tree.specs.declared.types.Spot.{Spot}
 use Rattle.cs_tree.specs.declared.types.Name.{Name}
@@ -18,9 +18,7 @@ use Rattle.cs_tree.specs.declared.forms.Action.{Action}
 use Rattle.cs_tree.specs.declared.forms.Action.TheVariants as action
 use Rattle.cs_tree.specs.declared.forms.Section.{Section}
 use Rattle.cs_tree.specs.declared.forms.Catching.{Catching}
-use Rattle.cs_tree.specs.declared.forms.Syntax.{Syntax}
 use Rattle.cs_tree.specs.declared.forms.Syntax.TheVariants as syntax
-use Rattle.cs_tree.specs.declared.forms.Action.TheOpen.{Action-F, Form-F, Syntax-F}
 use Rattle.cs_tree.specs.Bare.{nowhere, bare_name, bare_type, bare_param, bare_action, bare_form, bare_syntax, bare_arg, bare_block}
 use Rattle.cs_wellformed.specs.Same.{bare_catching, bare_section}
 use Rattle.cs_wellformed.proofs.Bared.{bare_Literal, bare_Name, bare_This, bare_Member, bare_Call, bare_BaseMember, bare_BaseCall, bare_Global, bare_GlobalCall, bare_Index, bare_New, bare_NewArray, bare_Checked, bare_Unchecked, bare_Default, bare_Lambda, bare_Unary, bare_Cast, bare_Binary, bare_Is, bare_As, bare_Conditional, bare_Assign, bare_Compound, bare_Invoke, bare_Declare, bare_Act, bare_Label, bare_Goto, bare_Break, bare_Continue, bare_Return, bare_Throw, bare_If, bare_While, bare_DoWhile, bare_For, bare_Foreach, bare_Using, bare_Lock, bare_Switch, bare_Try}

@@ -18,7 +18,6 @@ use Rattle.cs_tree.specs.declared.forms.Action.{Action}
 use Rattle.cs_tree.specs.declared.forms.Action.TheVariants as action
 use Rattle.cs_tree.specs.declared.forms.Section.{Section}
 use Rattle.cs_tree.specs.declared.forms.Catching.{Catching}
-use Rattle.cs_tree.specs.declared.forms.Syntax.{Syntax}
 use Rattle.cs_tree.specs.declared.forms.Syntax.TheVariants as syntax
 use Rattle.cs_tree.specs.declared.forms.Action.TheOpen.{Action-F, Form-F, Syntax-F}
 use Rattle.cs_tree.specs.declared.forms.Action.TheFolds.{fold-roll-Action, fold-roll-Form, fold-roll-Syntax}

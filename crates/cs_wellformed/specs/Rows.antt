@@ -1,5 +1,5 @@
 -- Worked rows: trees whose texts are seen to have so many levels.
-use Rattle.std.specs.Prelude.{ℕ, List, [], ◌∷◌, codes}
+use Rattle.std.specs.Prelude.{ℕ}
 use Rattle.cs_tree.specs.declared.types.KeywordType.TheVariants.{Int}
 use Rattle.cs_tree.specs.declared.types.TypeName.TheVariants as type_name
 use Rattle.cs_tree.specs.declared.types.TypeForm.{TypeForm}

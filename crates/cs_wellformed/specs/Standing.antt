@@ -1,11 +1,11 @@
 -- How an expression stands in a printed text: which begin otherwise than they seem to, and how many levels its parentheses are.
-use Rattle.std.specs.Prelude.{◌≡◌, ℕ, ◌+◌, Bool, true, false, cond, ◌&&◌, ◌||◌, nat_lt}
+use Rattle.std.specs.Prelude.{ℕ, ◌+◌, Bool, true, false, cond, ◌&&◌, ◌||◌, nat_lt}
 use Rattle.cs_tree.specs.declared.forms.Form.{Form}
 use Rattle.cs_tree.specs.declared.forms.UnaryOp.{UnaryOp}
 use Rattle.cs_tree.specs.declared.forms.Action.TheOpen.{Form-F}
 use Rattle.cs_tree.specs.declared.forms.Action.TheFolds.{fold-Form}
 use Rattle.cs_layout.specs.Words.{unary_level, cast_level}
-use Rattle.cs_layout.specs.Layout.{Shown, form_shown, is_minus_op}
+use Rattle.cs_layout.specs.Layout.{form_shown, is_minus_op}
 
 -- a path without arguments: a name behind it would be one more name of the path (12.8.7)
 abbrev pub path_layer : Form-F Bool Bool Bool Bool Bool Bool Bool → Bool

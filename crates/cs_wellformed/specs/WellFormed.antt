@@ -4,7 +4,7 @@
 -- `IsForm levels limit f h b`: the expression is well formed; on the longest path of its printed text stand `h` operators, calls, casts,
 -- lambdas and pairs of parentheses, and `b` blocks are open in one another in its lambdas. `levels` is how many levels an expression in
 -- such a block may have, and `limit` how many pairs of brackets a type.
-use Rattle.std.specs.Prelude.{◌≡◌, ℕ, ◌+◌, ◌≤◌, max, true, false, List, [], ◌∷◌, All, Option, Some, None}
+use Rattle.std.specs.Prelude.{◌≡◌, ℕ, ◌+◌, ◌≤◌, max, false, List, [], ◌∷◌, All, Option, Some, None}
 use Rattle.cs_tree.specs.declared.types.Spot.{Spot}
 use Rattle.cs_tree.specs.declared.types.Name.{Name}
 use Rattle.cs_tree.specs.declared.types.TypeName.{TypeName}

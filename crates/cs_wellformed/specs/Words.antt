@@ -1,5 +1,5 @@
 -- Names, literals, paths, types and parameters that can be written (ECMA-334, 6.4, 7.8, 8 and 15.6.2).
-use Rattle.std.specs.Prelude.{◌≡◌, ℕ, ◌≤◌, ◌<◌, List, [], ◌∷◌, All}
+use Rattle.std.specs.Prelude.{ℕ, ◌≤◌, List, [], ◌∷◌, All}
 use Rattle.cs_token.specs.declared.lexeme.Lexeme.TheVariants as lexeme
 use Rattle.cs_written.specs.Spelled.{IsSpellable}
 use Rattle.cs_tree.specs.declared.types.TypeName.{TypeName}
