@@ -1,0 +1,4 @@
+-- Which calls cite each file in the proof of their clauses. A file without a call serves the files that are cited, and the crates above.
+pub mod Opening
+pub mod Leading
+pub mod Reading
