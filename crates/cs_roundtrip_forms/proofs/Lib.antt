@@ -2,3 +2,4 @@
 pub mod Opening
 pub mod Leading
 pub mod Reading
+pub mod Primaries

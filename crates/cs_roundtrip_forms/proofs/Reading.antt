@@ -1,5 +1,6 @@
 -- Expressions that are read, in parentheses or not.
-use Rattle.std.proofs.Common.{◌≡◌, inl, inr, ℕ, zero, suc, ◌+◌, ◌≤◌, ◌<◌, Bool, true, false, cond, List, [], ◌∷◌, ◌++◌, refl, sym, ◌∙◌, ap, subst, nat_lt, arith}
+use Rattle.std.proofs.Common.{◌≡◌, ◌⊎◌, inl, inr, ℕ, zero, suc, ◌+◌, ◌≤◌, ◌<◌, Bool, true, false, cond, List, [], ◌∷◌, ◌++◌, refl, sym, ◌∙◌, ap, subst, nat_lt, arith}
+use Rattle.std.proofs.Math.Nat.{eq-or-lt_of_le}
 use Rattle.cs_token.specs.Placed.{Placed as Token}
 use Rattle.cs_token.specs.declared.lexeme.Lexeme.TheVariants as lexeme
 use Rattle.cs_tree.specs.declared.forms.Form.{Form}
@@ -20,17 +21,34 @@ use Rattle.cs_layout.specs.Words.{fixed}
 use Rattle.cs_layout.specs.Layout.{Shown, form_shown, enclosed, at_least}
 use Rattle.cs_wellformed.specs.Standing.{is_path, begins_lambda, enclosed_levels, levels_at_least}
 use Rattle.cs_roundtrip_types.specs.Spells.{Spells}
-use Rattle.cs_roundtrip_forms.specs.Standing.{Opens, standing, Top, operands, top_at, member_tail, index_tail}
+use Rattle.cs_roundtrip_forms.specs.Standing.{Opens, standing, rounds, Top, operands, top_at, member_tail, index_tail}
 use Rattle.cs_roundtrip_forms.specs.Reading.{IsRead, MayStand, Reads}
-use Rattle.cs_roundtrip_forms.proofs.Opening.{opens_end, opens_in, opens_with, opens_then, opens_takes, closes, lower}
+use Rattle.cs_roundtrip_forms.proofs.Opening.{opens_end, opens_in, opens_with, opens_then, opens_takes, closes, no_rounds, opens_level, lower}
 use Rattle.cs_roundtrip_forms.proofs.Leading.{from_counted}
 
 -- from what an expression is by itself
 
-pub reads_low : {n : ℕ} {inner : Inner} {f : Form} {h : ℕ} {ps : List Piece} (k : ℕ) → (form_shown f).level ≡ k → k < 13 → Spells (standing k n inner) ps (IsRead f h) → Reads n inner f h ps
-reads_low {n} {inner} {f} {h} {ps} k e l x =
+pub at_shown : {n : ℕ} {inner : Inner} {f : Form} {h : ℕ} (margin : List ℕ) (s : Shown) → form_shown f ≡ s → Reads n inner f h (s.pieces margin) → Reads n inner f h ((form_shown f).pieces margin)
+at_shown {n} {inner} {f} {h} margin s e x = subst (λ z. Reads n inner f h (z.pieces margin)) (sym e) x
+
+-- of an operator with one operand or three, or a cast
+pub reads_low : {n : ℕ} {inner : Inner} {f : Form} {h : ℕ} {ps : List Piece} (k : ℕ) → (form_shown f).level ≡ k → (k ≡ 0) ⊎ (11 ≤ k) → k < 13 → Spells (standing k n inner) ps (IsRead f h) → Reads n inner f h ps
+reads_low {n} {inner} {f} {h} {ps} k e out l x =
     record {
       stands = subst (λ j. Spells (standing j n inner) ps (IsRead f h)) (sym e) x;
+      chains = λ low high. absurd (elim out [ inl z ↦ omega (arith, e, z, low) | inr z ↦ omega (arith, e, z, high) ]);
+      primary = λ top may t. absurd (omega (arith, e, l, t));
+      member = λ top may t _. absurd (omega (arith, e, l, t));
+      index = λ top may t. absurd (omega (arith, e, l, t));
+    }
+
+-- of an operator with two operands
+pub reads_level : {n : ℕ} {inner : Inner} {f : Form} {h : ℕ} {ps : List Piece} (k : ℕ) → (form_shown f).level ≡ k → k < 13 → Opens (rounds k n inner) (standing k n inner) ps (IsRead f h)
+    → Reads n inner f h ps
+reads_level {n} {inner} {f} {h} {ps} k e l x =
+    record {
+      stands = subst (λ j. Spells (standing j n inner) ps (IsRead f h)) (sym e) (closes (no_rounds k n inner) x);
+      chains = λ low high. subst (λ j. Opens (rounds j n inner) (standing j n inner) ps (IsRead f h)) (sym e) x;
       primary = λ top may t. absurd (omega (arith, e, l, t));
       member = λ top may t _. absurd (omega (arith, e, l, t));
       index = λ top may t. absurd (omega (arith, e, l, t));
@@ -45,6 +63,7 @@ pub reads_post : {n : ℕ} {inner : Inner} {f : Form} {h : ℕ} {ps : List Piece
 reads_post {n} {inner} {f} {h} {ps} e x =
     record {
       stands = subst (λ j. Spells (standing j n inner) ps (IsRead f h)) (sym e) (closes (no_postfix n inner) (x operands (λ _. refl)));
+      chains = λ low high. absurd (omega (arith, e, high));
       primary = λ top may t. closes (no_postfix n inner) (x top may);
       member = λ top may t _. opens_with (λ m ts made rest d. (suc d.1.3.0, (d.1.0, d.1.1, d.0, inl d.1.2, d.1.3.1))) (x top may);
       index = λ top may t. opens_with (λ m ts made rest d. (suc d.1.3.0, (d.1.0, d.1.1, d.0, inr d.1.2, d.1.3.1))) (x top may);
@@ -55,6 +74,7 @@ pub reads_path : {n : ℕ} {inner : Inner} {f : Form} {h : ℕ} {ps : List Piece
 reads_path {n} {inner} {f} {h} {ps} e path x y =
     record {
       stands = subst (λ j. Spells (standing j n inner) ps (IsRead f h)) (sym e) (x operands);
+      chains = λ low high. absurd (omega (arith, e, high));
       primary = λ top may t. x top;
       member = λ top may t no_path. absurd (not_both (sym path ∙ no_path));
       index = λ top may t. y top;
@@ -68,6 +88,7 @@ pub reads_array : {n : ℕ} {inner : Inner} {f : Form} {h : ℕ} {ps : List Piec
 reads_array {n} {inner} {f} {h} {ps} e x y =
     record {
       stands = subst (λ j. Spells (standing j n inner) ps (IsRead f h)) (sym e) (x operands);
+      chains = λ low high. absurd (omega (arith, e, high));
       primary = λ top may t. x top;
       member = λ top may t _. y top;
       index = λ top may t. absurd (omega (arith, e, t));
@@ -93,10 +114,7 @@ abbrev pub Claim : Grammar Token Block → ℕ → ℕ → Form → ℕ → Type
 Claim block blocks limit f h = (n : ℕ) → h ≤ n → (margin : List ℕ) → Reads n (below block blocks limit n) f h ((form_shown f).pieces margin)
 
 module _ (block : Grammar Token Block) (blocks limit : ℕ) where
-  env : ℕ → Inner
-  env n = below block blocks limit n
-
-  says_enclosed : (inside : Bool) (w n : ℕ) (f : Form) (h : ℕ) (margin : List ℕ) → Claim block blocks limit f h → enclosed_levels inside h ≤ n → (inside ≡ false → w ≤ (form_shown f).level) → w ≤ 12
+  pub says_enclosed : (inside : Bool) (w n : ℕ) (f : Form) (h : ℕ) (margin : List ℕ) → Claim block blocks limit f h → enclosed_levels inside h ≤ n → (inside ≡ false → w ≤ (form_shown f).level) → w ≤ 12
       → Spells (standing w n (below block blocks limit n)) (enclosed inside ((form_shown f).pieces margin)) (IsRead f (enclosed_levels inside h))
   says_enclosed true w zero f h margin x l low t = absurd (omega (arith, l))
   says_enclosed true w (suc k) f h margin x l low t =
@@ -104,12 +122,41 @@ module _ (block : Grammar Token Block) (blocks limit : ℕ) where
       (closes (no_postfix (suc k) (below block blocks limit (suc k))) (opens_paren operands k (below block blocks limit k) (whole (x k (omega (arith, l)) margin))))
   says_enclosed false w n f h margin x l low t = lower (form_shown f).level w n (below block blocks limit n) (low refl) (x n l margin).stands
 
-  low_enough : (a w : ℕ) → nat_lt a w ≡ false → w ≤ a
+  pub low_enough : (a w : ℕ) → nat_lt a w ≡ false → w ≤ a
   low_enough a w e = grind (arith, e)
 
   pub says_at_least : (w n : ℕ) (f : Form) (h : ℕ) (margin : List ℕ) → Claim block blocks limit f h → levels_at_least w f h ≤ n → w ≤ 12
       → Spells (standing w n (below block blocks limit n)) (at_least w (form_shown f) margin) (IsRead f (levels_at_least w f h))
   says_at_least w n f h margin x l t = says_enclosed (nat_lt (form_shown f).level w) w n f h margin x l (low_enough (form_shown f).level w) t
+
+  says_open : (inside : Bool) (w n : ℕ) (f : Form) (h : ℕ) (margin : List ℕ) → Claim block blocks limit f h → enclosed_levels inside h ≤ n → (inside ≡ false → w ≤ (form_shown f).level) → 1 ≤ w → w ≤ 10
+      → Opens (rounds w n (below block blocks limit n)) (standing w n (below block blocks limit n)) (enclosed inside ((form_shown f).pieces margin)) (IsRead f (enclosed_levels inside h))
+  says_open true w n f h margin x l low o t =
+      opens_level w n (below block blocks limit n) (says_enclosed true (suc w) n f h margin x l (λ e. absurd (not_true e)) (omega (arith, t)))
+    where
+      not_true : true ≡ false → ⊥
+      not_true e = cc
+  says_open false w n f h margin x l low o t = elim (eq-or-lt_of_le (low refl)) [
+    inl e ↦ subst (λ j. Opens (rounds j n (below block blocks limit n)) (standing j n (below block blocks limit n)) ((form_shown f).pieces margin) (IsRead f h)) (sym e) ((x n l margin).chains (omega (arith, e, o)) (omega (arith, e, t)))
+    | inr d ↦ opens_level w n (below block blocks limit n) (lower (form_shown f).level (suc w) n (below block blocks limit n) (omega (arith, d)) (x n l margin).stands)
+  ]
+
+  pub opens_at_least : (w n : ℕ) (f : Form) (h : ℕ) (margin : List ℕ) → Claim block blocks limit f h → levels_at_least w f h ≤ n → 1 ≤ w → w ≤ 10
+      → Opens (rounds w n (below block blocks limit n)) (standing w n (below block blocks limit n)) (at_least w (form_shown f) margin) (IsRead f (levels_at_least w f h))
+  opens_at_least w n f h margin x l o t = says_open (nat_lt (form_shown f).level w) w n f h margin x l (low_enough (form_shown f).level w) o t
+
+  -- what isn't asked of the parts of an expression, and of its types
+  pub ranks_are : (n : ℕ) → (below block blocks limit n).ranks ≡ limit
+  ranks_are zero = refl
+  ranks_are (suc n) = ranks_are n
+
+  pub blocks_are : (n : ℕ) → (below block blocks limit n).blocks ≡ blocks
+  blocks_are zero = refl
+  blocks_are (suc n) = blocks_are n
+
+  pub block_is : (n : ℕ) → (below block blocks limit n).block ≡ block
+  block_is zero = refl
+  block_is (suc n) = block_is n
 
   member_object : (inside : Bool) (top : Top) (n : ℕ) (f : Form) (h : ℕ) (margin : List ℕ) → Claim block blocks limit f h → MayStand f top → is_path f ≡ false → enclosed_levels inside h ≤ n
       → (inside ≡ false → 13 ≤ (form_shown f).level)

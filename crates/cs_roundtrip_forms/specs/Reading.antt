@@ -10,7 +10,7 @@ use Rattle.cs_layout.specs.Pieces.{Piece}
 use Rattle.cs_layout.specs.Layout.{form_shown}
 use Rattle.cs_wellformed.specs.Standing.{is_path, begins_lambda}
 use Rattle.cs_roundtrip_types.specs.Spells.{Spells}
-use Rattle.cs_roundtrip_forms.specs.Standing.{Opens, standing, Top, takes_lambda, top_at, member_tail, index_tail}
+use Rattle.cs_roundtrip_forms.specs.Standing.{Opens, standing, rounds, Top, takes_lambda, top_at, member_tail, index_tail}
 
 -- this expression but for its places, with so many levels
 pub record IsRead (f : Form) (h : ℕ) (m : Measured) : Type 0 where
@@ -26,9 +26,10 @@ pub record AreRead (args : List Arg) (h : ℕ) (r : Args) : Type 0 where
 abbrev pub MayStand : Form → Top → Type 0
 MayStand f top = begins_lambda f ≡ true → takes_lambda top ≡ true
 
--- An expression is read at its own level. A primary one is also read with what may stand behind it.
+-- An expression is read at its own level, and one of two operands with more operators of its level behind it. A primary one is also read with what may stand behind it.
 pub record Reads (n : ℕ) (inner : Inner) (f : Form) (h : ℕ) (ps : List Piece) : Type 0 where
   pub stands : Spells (standing (form_shown f).level n inner) ps (IsRead f h)
+  pub chains : 1 ≤ (form_shown f).level → (form_shown f).level ≤ 10 → Opens (rounds (form_shown f).level n inner) (standing (form_shown f).level n inner) ps (IsRead f h)
   pub primary : (top : Top) → MayStand f top → 13 ≤ (form_shown f).level → Spells (top_at top n inner) ps (IsRead f h)
   pub member : (top : Top) → MayStand f top → 13 ≤ (form_shown f).level → is_path f ≡ false → Opens (member_tail n inner) (top_at top n inner) ps (IsRead f h)
   pub index : (top : Top) → MayStand f top → 14 ≤ (form_shown f).level → Opens (index_tail n inner) (top_at top n inner) ps (IsRead f h)

@@ -4,3 +4,4 @@ pub mod Bared
 pub mod Same
 -- rows::levels_are_as_meant
 pub mod Levels
+pub mod Parts

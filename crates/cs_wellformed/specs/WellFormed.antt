@@ -120,14 +120,15 @@ mutual
 
   -- what ends with arguments in parentheses
   pub data IsCall (levels limit : ℕ) : Form → ℕ → Type 0 where
-    member_call : (s : Spot) (a : Form) (x : Name) (args : List Arg) (b : ℕ) → IsPlace levels limit (form.Call s a x args) b →
-        IsCall levels limit (form.Call s a x args) b
-    base_member_call : (s : Spot) (x : Name) (args : List Arg) (b : ℕ) → IsPlace levels limit (form.BaseCall s x args) b →
-        IsCall levels limit (form.BaseCall s x args) b
-    global_call : (s : Spot) (names : List (List ℕ)) (args : List Arg) (b : ℕ) → IsPlace levels limit (form.GlobalCall s names args) b →
-        IsCall levels limit (form.GlobalCall s names args) b
-    new_call : (s : Spot) (class : TypeName) (args : List Arg) (b : ℕ) → IsPlace levels limit (form.New s class args) b →
-        IsCall levels limit (form.New s class args) b
+    member_call : (s : Spot) (a : Form) (x : Name) (args : List Arg) (h k b c : ℕ) → IsForm levels limit a h b → is_path a ≡ false → begins_lambda a ≡ false →
+        IsName x.text → AreArgs levels limit args k c → max (levels_at_least new_array_level a h + 1) k + 1 ≤ levels →
+        IsCall levels limit (form.Call s a x args) (max b c)
+    base_member_call : (s : Spot) (x : Name) (args : List Arg) (k c : ℕ) → IsName x.text → AreArgs levels limit args k c → k + 1 ≤ levels →
+        IsCall levels limit (form.BaseCall s x args) c
+    global_call : (s : Spot) (names : List (List ℕ)) (args : List Arg) (k c : ℕ) → IsPath names → AreArgs levels limit args k c → k + 1 ≤ levels →
+        IsCall levels limit (form.GlobalCall s names args) c
+    new_call : (s : Spot) (class : TypeName) (args : List Arg) (k c : ℕ) → IsTypeName class → AreArgs levels limit args k c → k + 1 ≤ levels →
+        IsCall levels limit (form.New s class args) c
 
   pub data IsAction (levels limit : ℕ) : Action → ℕ → Type 0 where
     assign : (p a : Form) (b c : ℕ) → IsPlace levels limit p b → IsValue levels limit a c → IsAction levels limit (action.Assign p a) (max b c)
