@@ -15,7 +15,7 @@ use Rattle.cs_productions.specs.Inner.{Inner}
 use Rattle.cs_productions.specs.Calls.{postfixes}
 use Rattle.cs_productions.specs.Operators.{operand, unary, signed, choosing}
 use Rattle.cs_roundtrip_types.specs.Spells.{lexemes, Spells}
-use Rattle.cs_roundtrip_types.proofs.Spelling.{says_nothing, skips, takes, says_then, says_in, says_so, says_like, says_first, says_second, says_where, says_else}
+use Rattle.cs_roundtrip_types.proofs.Spelling.{says_nothing, skips, takes, says_then, says_made, says_in, says_so, says_like, says_first, says_second, says_where, says_else}
 use Rattle.cs_roundtrip_forms.specs.Standing.{derivation, opens, Opens, standing, rounds}
 
 -- grammars that end in a tail
@@ -59,6 +59,19 @@ pub opens_takes : {A : Type 0} {P : Measured → Type 0} {tail : Measured → Gr
 opens_takes {tail = tail} {f = f} kinds made l is next =
     record {
       opened = says_in {g = bind (one kind kinds made) (λ a. opens tail (f a))} (λ ts m rest q d m′ others t. (d.0, d.1, d.2, d.3 m′ others t)) (takes kinds made l is (λ t e. (next t e).opened));
+    }
+
+-- the last part, and what is made of it
+pub opens_last : {P : Measured → Type 0} {g : Grammar Token Measured} {ps : List Piece} (tail : Measured → Grammar Token Measured) → Spells g ps P → Opens tail (bind g tail) ps P
+opens_last {g = g} tail x = record { opened = says_in {g = g} (λ ts m rest p d made others t. (m, rest, d, t)) x }
+
+pub opens_made : {A : Type 0} {P : A → Type 0} {Q : Measured → Type 0} {g : Grammar Token A} {ps : List Piece} (tail : Measured → Grammar Token Measured) (f : A → Measured) → Spells g ps P
+    → ((a : A) → P a → Q (f a)) → Opens tail (bind g (λ a. tail (f a))) ps Q
+opens_made {g = g} tail f x y =
+    record {
+      opened = says_in {g = bind g (λ a. gives (f a))}
+          (λ ts m rest q d made others t. (d.0, d.1, d.2, subst (λ us. (tail (f d.0)).derives us made others) d.3.1 (subst (λ b. (tail b).derives rest made others) d.3.0 t)))
+          (says_made f x y);
     }
 
 -- what is a value of the grammar by itself

@@ -52,7 +52,7 @@ use Rattle.cs_roundtrip_types.proofs.Spelling.{says_nothing, skips, takes, takes
 use Rattle.cs_roundtrip_types.proofs.Types.{HasText, says_name, says_path, SameType, same_type, says_named_type, says_ranks, says_type, says_way}
 use Rattle.cs_roundtrip_forms.specs.Standing.{Opens, standing, rounds, Top, operands, top_at, member_tail, index_tail}
 use Rattle.cs_roundtrip_forms.specs.Reading.{IsRead, AreRead, MayStand, Reads}
-use Rattle.cs_roundtrip_forms.proofs.Opening.{opens_end, opens_in, opens_so, opens_like, opens_skips, opens_then, opens_takes, opens_behind, closes, else_derives, where_derives}
+use Rattle.cs_roundtrip_forms.proofs.Opening.{opens_end, opens_in, opens_so, opens_like, opens_skips, opens_then, opens_takes, opens_last, opens_made, opens_behind, closes, else_derives, where_derives}
 use Rattle.cs_roundtrip_forms.proofs.Leading.{from_counted, from_global, from_base, from_simple}
 use Rattle.cs_roundtrip_forms.proofs.Reading.{at_shown, reads_post, reads_path, reads_array, whole, Claim, opens_member_object, opens_index_object, ranks_are}
 
@@ -269,3 +269,207 @@ module _ (block : Grammar Token Block) (blocks limit : ℕ) where
       (opens_index_object block blocks limit top (suc n) a h margin claim (λ e. may (begins_Index s a i ∙ e)) (omega (arith, l)))
       (λ m p. room m.height (suc n) (levels_at_least 14 a h) p.tall (omega (arith, l)))
       (λ m p. says_index (suc n) (below block blocks limit (suc n)) s a i (levels_at_least 14 a h) k ((form_shown i).pieces margin) m p (whole (inside n (omega (arith, l)) margin)))))
+
+  -- `base`, and paths
+
+  pub reads_base_member : (n : ℕ) (inner : Inner) (margin : List ℕ) (s : Spot) (x : Name) → Reads n inner (form.BaseMember s x) 0 ((form_shown (form.BaseMember s x)).pieces margin)
+  unfolding fixed name
+  reads_base_member n inner margin s x =
+      at_shown margin _ (shown_BaseMember s x)
+      (reads_post (ap (λ z. z.level) (shown_BaseMember s x))
+      (λ top may. opens_in {g = of_base n inner} (from_base top n inner)
+      (opens_takes (kw_base ∷ []) spot_of (lexeme.Keyword 2) refl
+      (λ t _. opens_takes (dot ∷ []) (λ _. tt) (lexeme.Sign 9) refl
+      (λ _ _. opens_then (says_name x.text)
+      (λ y e. opens_last (postfixes n inner)
+      (says_else (nat_lt 0 n) (paren ∷ []) (bind (arguments inner) (λ args. gives (base_call (spot_of t) y args)))
+      (says_nothing (leaf (form.BaseMember (spot_of t) y) (spot_of t)) (record { same = same_BaseMember (spot_of t) s y x (name_same y x x.text e refl); tall = refl })))))))))
+
+  some : (k : ℕ) → nat_lt 0 (suc k) ≡ true
+  some k = grind arith
+
+  pub opens_base_call : (n : ℕ) (margin : List ℕ) (s : Spot) (x : Name) (args : List Arg) (k : ℕ) → ArgsRead (at n (below block blocks limit n)) args k margin → (top : Top)
+      → Opens (postfixes (suc n) (below block blocks limit (suc n))) (top_at top (suc n) (below block blocks limit (suc n)))
+      (fixed fixed_part.Base ++ (name x.text ++ laid.arguments (map arg_laid args) margin)) (λ c. IsRead (form.BaseCall s x args) (k + 1) c × (c.is_call ≡ true))
+  unfolding fixed
+  opens_base_call n margin s x args k y top =
+      let inner : Inner = below block blocks limit (suc n) in
+      opens_in {g = of_base (suc n) (below block blocks limit (suc n))} (from_base top (suc n) (below block blocks limit (suc n)))
+      (opens_takes (kw_base ∷ []) spot_of (lexeme.Keyword 2) refl
+      (λ t _. opens_takes (dot ∷ []) (λ _. tt) (lexeme.Sign 9) refl
+      (λ _ _. opens_then (says_name x.text)
+      (λ z e. opens_last (postfixes (suc n) (below block blocks limit (suc n)))
+      (says_where (nat_lt 0 (suc n)) (paren ∷ []) (gives (leaf (form.BaseMember (spot_of t) z) (spot_of t))) (some n)
+      (says_made (base_call (spot_of t) z) y.all
+      (λ r q. (record { same = same_BaseCall (spot_of t) s z x r.args args (name_same z x x.text e refl) q.same; tall = ap (λ j. j + 1) q.tall }, refl))))))))
+
+  pub reads_base_call : (n : ℕ) (margin : List ℕ) (s : Spot) (x : Name) (args : List Arg) (k : ℕ) → ArgsRead (at n (below block blocks limit n)) args k margin
+      → Reads (suc n) (below block blocks limit (suc n)) (form.BaseCall s x args) (k + 1) ((form_shown (form.BaseCall s x args)).pieces margin)
+  reads_base_call n margin s x args k y =
+      at_shown margin _ (shown_BaseCall s x args) (reads_post (ap (λ z. z.level) (shown_BaseCall s x args)) (λ top may. opens_so (opens_base_call n margin s x args k y top) (λ c p. p.0)))
+
+  opens_path : {P : Measured → Type 0} (n : ℕ) (inner : Inner) (texts : List (List ℕ)) (ps : List Piece) (tail : Measured → Grammar Token Measured) → IsPath texts
+      → ((t : Spot) → Opens tail (behind_path n inner t texts) ps P) → (top : Top) → Opens tail (top_at top n inner) (fixed fixed_part.Global ++ (layout.path texts ++ ps)) P
+  unfolding fixed
+  opens_path {P = P} n inner texts ps tail h x top =
+      opens_in {g = of_global n inner} (from_global top n inner)
+      (opens_takes (global ∷ []) global_leaf (lexeme.Name (codes "global")) refl
+      (λ t _. opens_in {g = global_path n inner (spot_of t)} (λ ts m rest d. inl d)
+      (opens_takes (colons ∷ []) (λ _. tt) (lexeme.Sign 33) refl
+      (λ _ _. opens_then (says_path texts h) (λ names e. subst (λ z. Opens tail (behind_path n inner (spot_of t) z) ps P) (sym e) (x (spot_of t)))))))
+
+  nothing_more : (texts : List (List ℕ)) → lexemes (fixed fixed_part.Global ++ layout.path texts) ≡ lexemes (fixed fixed_part.Global ++ (layout.path texts ++ []))
+  nothing_more texts = ap (λ z. lexemes (fixed fixed_part.Global ++ z)) (sym (append-nil (layout.path texts)))
+
+  path_is_read : (t s : Spot) (texts : List (List ℕ)) → IsRead (form.Global s texts) 0 (path_alone t texts)
+  path_is_read t s texts = record { same = same_Global t s texts; tall = refl }
+
+  pub reads_global : (n : ℕ) (inner : Inner) (margin : List ℕ) (s : Spot) (texts : List (List ℕ)) → IsPath texts
+      → Reads n inner (form.Global s texts) 0 ((form_shown (form.Global s texts)).pieces margin)
+  reads_global n inner margin s texts h =
+      at_shown margin _ (shown_Global s texts)
+      (reads_path (ap (λ z. z.level) (shown_Global s texts)) (path_is s texts)
+      (λ top. closes {tail = gives} (λ m ts. (refl, refl))
+      (opens_like (opens_path n inner texts [] gives h
+      (λ t. opens_in {g = gives (path_alone t texts)}
+      (λ ts m rest d. else_derives (nat_lt 0 n) (paren ∷ []) (called_path n inner t texts) (guarded kind (nat_lt 0 n) (bracket ∷ []) (indexed n inner (path_alone t texts)) (gives (path_alone t texts))) ts m rest
+      (else_derives (nat_lt 0 n) (bracket ∷ []) (indexed n inner (path_alone t texts)) (gives (path_alone t texts)) ts m rest d))
+      (opens_end gives (path_alone t texts) (path_is_read t s texts))) top) (nothing_more texts)))
+      (λ top. opens_like (opens_path n inner texts [] (index_tail n inner) h
+      (λ t. opens_in {g = index_tail n inner (path_alone t texts)}
+      (λ ts m rest d. else_derives (nat_lt 0 n) (paren ∷ []) (called_path n inner t texts) (guarded kind (nat_lt 0 n) (bracket ∷ []) (indexed n inner (path_alone t texts)) (gives (path_alone t texts))) ts m rest
+      (where_derives (nat_lt 0 n) (bracket ∷ []) (indexed n inner (path_alone t texts)) (gives (path_alone t texts)) ts m rest d.0 d.1))
+      (opens_end (index_tail n inner) (path_alone t texts) (path_is_read t s texts))) top) (nothing_more texts)))
+
+  pub opens_global_call : (n : ℕ) (margin : List ℕ) (s : Spot) (texts : List (List ℕ)) (args : List Arg) (k : ℕ) → IsPath texts → ArgsRead (at n (below block blocks limit n)) args k margin
+      → (top : Top) → Opens (postfixes (suc n) (below block blocks limit (suc n))) (top_at top (suc n) (below block blocks limit (suc n)))
+      (fixed fixed_part.Global ++ (layout.path texts ++ laid.arguments (map arg_laid args) margin)) (λ c. IsRead (form.GlobalCall s texts args) (k + 1) c × (c.is_call ≡ true))
+  opens_global_call n margin s texts args k h y top =
+      opens_path (suc n) (below block blocks limit (suc n)) texts (laid.arguments (map arg_laid args) margin) (postfixes (suc n) (below block blocks limit (suc n))) h
+      (λ t. opens_in {g = called_path (suc n) (below block blocks limit (suc n)) t texts}
+      (λ ts m rest d. where_derives (nat_lt 0 (suc n)) (paren ∷ []) (called_path (suc n) (below block blocks limit (suc n)) t texts)
+      (guarded kind (nat_lt 0 (suc n)) (bracket ∷ []) (indexed (suc n) (below block blocks limit (suc n)) (path_alone t texts)) (gives (path_alone t texts))) ts m rest (some n) d)
+      (opens_made (postfixes (suc n) (below block blocks limit (suc n))) (global_call t texts) y.all
+      (λ r q. (record { same = same_GlobalCall t s texts r.args args q.same; tall = ap (λ j. j + 1) q.tall }, refl)))) top
+
+  pub reads_global_call : (n : ℕ) (margin : List ℕ) (s : Spot) (texts : List (List ℕ)) (args : List Arg) (k : ℕ) → IsPath texts → ArgsRead (at n (below block blocks limit n)) args k margin
+      → Reads (suc n) (below block blocks limit (suc n)) (form.GlobalCall s texts args) (k + 1) ((form_shown (form.GlobalCall s texts args)).pieces margin)
+  reads_global_call n margin s texts args k h y =
+      at_shown margin _ (shown_GlobalCall s texts args)
+      (reads_post (ap (λ z. z.level) (shown_GlobalCall s texts args)) (λ top may. opens_so (opens_global_call n margin s texts args k h y top) (λ c p. p.0)))
+
+  -- what counts as a level
+
+  pub opens_new : (n : ℕ) (margin : List ℕ) (s : Spot) (class : TypeName) (args : List Arg) (k : ℕ) → IsTypeName class → ArgsRead (at n (below block blocks limit n)) args k margin
+      → (top : Top) → Opens (postfixes (suc n) (below block blocks limit (suc n))) (top_at top (suc n) (below block blocks limit (suc n)))
+      (fixed fixed_part.New ++ (layout.type_without_ranks class ++ laid.arguments (map arg_laid args) margin)) (λ c. IsRead (form.New s class args) (k + 1) c × (c.is_call ≡ true))
+  unfolding fixed
+  opens_new n margin s class args k h y top =
+      opens_in {g = of_new (suc n) (below block blocks limit (suc n))} (λ ts m rest d. from_counted top n (below block blocks limit n) ts m rest (inr (inl d)))
+      (opens_takes (kw_new ∷ []) spot_of (lexeme.Keyword 40) refl
+      (λ u _. opens_skips (32 ∷ [])
+      (opens_then (says_named_type class h)
+      (λ t q. opens_in {g = of_new_object (suc n) (below block blocks limit (suc n)) (spot_of u) t} (λ ts m rest d. inl d)
+      (opens_made (postfixes (suc n) (below block blocks limit (suc n))) (new_object (spot_of u) t) y.all
+      (λ r p. (record { same = ap (λ z. bare_form (form.New (spot_of u) z r.args)) q.0 ∙ same_New (spot_of u) s class r.args args p.same; tall = ap (λ j. j + 1) p.tall }, refl)))))))
+
+  pub reads_new : (n : ℕ) (margin : List ℕ) (s : Spot) (class : TypeName) (args : List Arg) (k : ℕ) → IsTypeName class → ArgsRead (at n (below block blocks limit n)) args k margin
+      → Reads (suc n) (below block blocks limit (suc n)) (form.New s class args) (k + 1) ((form_shown (form.New s class args)).pieces margin)
+  reads_new n margin s class args k h y =
+      at_shown margin _ (shown_New s class args) (reads_post (ap (λ z. z.level) (shown_New s class args)) (λ top may. opens_so (opens_new n margin s class args k h y top) (λ c p. p.0)))
+
+  array_fits : (r n : ℕ) → r + 1 ≤ limit → 0 + r ≤ (below block blocks limit n).ranks - 1
+  array_fits r n l = omega (arith, ranks_are block blocks limit n, l)
+
+  opens_array : (n : ℕ) (margin : List ℕ) (s : Spot) (t : TypeForm) (a : Form) (h : ℕ) (tail : Measured → Grammar Token Measured) → IsTypeName t.name → t.ranks + 1 ≤ limit
+      → Spells (forms_at n (below block blocks limit n) part.Whole) ((form_shown a).pieces margin) (IsRead a h)
+      → ((m : Measured) → Opens tail (behind_array (suc n) (below block blocks limit (suc n)) m) [] (λ c. c ≡ m)) → (top : Top)
+      → Opens tail (top_at top (suc n) (below block blocks limit (suc n)))
+      (fixed fixed_part.New ++ (layout.type_without_ranks t.name ++ (fixed fixed_part.OpenIndex ++ ((form_shown a).pieces margin ++ (fixed fixed_part.CloseIndex ++ layout.ranks t.ranks)))))
+      (IsRead (form.NewArray s t a) (h + 1))
+  unfolding fixed
+  opens_array n margin s t a h tail known fits x end top =
+      opens_in {g = of_new (suc n) (below block blocks limit (suc n))} (λ ts m rest d. from_counted top n (below block blocks limit n) ts m rest (inr (inl d)))
+      (opens_takes (kw_new ∷ []) spot_of (lexeme.Keyword 40) refl
+      (λ u _. opens_skips (32 ∷ [])
+      (opens_then (says_named_type t.name known)
+      (λ v q. opens_in {g = of_new_array (suc n) (below block blocks limit (suc n)) (spot_of u) v} (λ ts m rest d. inr d)
+      (opens_takes (bracket ∷ []) (λ _. tt) (lexeme.Sign 4) refl
+      (λ _ _. opens_then x
+      (λ l p. opens_takes (unbracket ∷ []) (λ _. tt) (lexeme.Sign 5) refl
+      (λ _ _. opens_like
+      (opens_then (says_ranks ((below block blocks limit (suc n)).ranks - 1) t.name 0 t.ranks v q (array_fits t.ranks (suc n) fits))
+      (λ w r. opens_so (end (new_array (spot_of u) w l))
+      (λ c e. record {
+        same = ap (λ z. bare_form z.form) e ∙ same_NewArray (spot_of u) s w t l.form a (same_type t w (r.0, r.1 ∙ omega arith)) p.same;
+        tall = ap (λ z. z.height) e ∙ ap (λ j. j + 1) p.tall;
+      })))
+      (ap lexemes (sym (append-nil (layout.ranks t.ranks))))))))))))
+
+  pub reads_new_array : (n : ℕ) (margin : List ℕ) (s : Spot) (t : TypeForm) (a : Form) (h : ℕ) → IsTypeName t.name → t.ranks + 1 ≤ limit
+      → Spells (forms_at n (below block blocks limit n) part.Whole) ((form_shown a).pieces margin) (IsRead a h)
+      → Reads (suc n) (below block blocks limit (suc n)) (form.NewArray s t a) (h + 1) ((form_shown (form.NewArray s t a)).pieces margin)
+  reads_new_array n margin s t a h known fits x =
+      at_shown margin _ (shown_NewArray s t a)
+      (reads_array (ap (λ z. z.level) (shown_NewArray s t a))
+      (λ top. closes {tail = gives} (λ m ts. (refl, refl))
+      (opens_array n margin s t a h gives known fits x
+      (λ m. opens_in {g = gives m}
+      (λ ts c rest d. else_derives (nat_lt m.height (suc n)) (dot ∷ []) (with_member (suc n) (below block blocks limit (suc n)) m) (gives m) ts c rest d)
+      (opens_end gives m refl)) top))
+      (λ top. opens_array n margin s t a h (member_tail (suc n) (below block blocks limit (suc n))) known fits x
+      (λ m. opens_in {g = member_tail (suc n) (below block blocks limit (suc n)) m}
+      (λ ts c rest d. where_derives (nat_lt m.height (suc n)) (dot ∷ []) (with_member (suc n) (below block blocks limit (suc n)) m) (gives m) ts c rest d.0 d.1)
+      (opens_end (member_tail (suc n) (below block blocks limit (suc n))) m refl)) top))
+
+  checked_same : (s : Spot) (t : Token) (a b : Form) → t.lexeme ≡ lexeme.Keyword 9 → bare_form b ≡ bare_form a
+      → bare_form (cond (kind t == kw_checked) (form.Checked (spot_of t) b) (form.Unchecked (spot_of t) b)) ≡ bare_form (form.Checked s a)
+  checked_same s t a b e same =
+      ap (λ l. bare_form (cond (kind_of l == kw_checked) (form.Checked (spot_of t) b) (form.Unchecked (spot_of t) b))) e ∙ same_Checked (spot_of t) s b a same
+
+  unchecked_same : (s : Spot) (t : Token) (a b : Form) → t.lexeme ≡ lexeme.Keyword 69 → bare_form b ≡ bare_form a
+      → bare_form (cond (kind t == kw_checked) (form.Checked (spot_of t) b) (form.Unchecked (spot_of t) b)) ≡ bare_form (form.Unchecked s a)
+  unchecked_same s t a b e same =
+      ap (λ l. bare_form (cond (kind_of l == kw_checked) (form.Checked (spot_of t) b) (form.Unchecked (spot_of t) b))) e ∙ same_Unchecked (spot_of t) s b a same
+
+  pub reads_checked : (n : ℕ) (margin : List ℕ) (s : Spot) (a : Form) (h : ℕ) → Spells (forms_at n (below block blocks limit n) part.Whole) ((form_shown a).pieces margin) (IsRead a h)
+      → Reads (suc n) (below block blocks limit (suc n)) (form.Checked s a) (h + 1) ((form_shown (form.Checked s a)).pieces margin)
+  unfolding fixed
+  reads_checked n margin s a h x =
+      at_shown margin _ (shown_Checked s a)
+      (reads_post (ap (λ z. z.level) (shown_Checked s a))
+      (λ top may. opens_in {g = of_checked (suc n) (below block blocks limit (suc n))} (λ ts m rest d. from_counted top n (below block blocks limit n) ts m rest (inr (inr (inr d))))
+      (opens_takes (kw_checked ∷ kw_unchecked ∷ []) (λ t. t) (lexeme.Keyword 9) refl
+      (λ t e. opens_takes (paren ∷ []) (λ _. tt) (lexeme.Sign 2) refl
+      (λ _ _. opens_then x
+      (λ b p. opens_takes (unparen ∷ []) (λ _. tt) (lexeme.Sign 3) refl
+      (λ _ _. opens_end (postfixes (suc n) (below block blocks limit (suc n))) (checked_of t b) (record { same = checked_same s t a b.form e p.same; tall = ap (λ j. j + 1) p.tall }))))))))
+
+  pub reads_unchecked : (n : ℕ) (margin : List ℕ) (s : Spot) (a : Form) (h : ℕ) → Spells (forms_at n (below block blocks limit n) part.Whole) ((form_shown a).pieces margin) (IsRead a h)
+      → Reads (suc n) (below block blocks limit (suc n)) (form.Unchecked s a) (h + 1) ((form_shown (form.Unchecked s a)).pieces margin)
+  unfolding fixed
+  reads_unchecked n margin s a h x =
+      at_shown margin _ (shown_Unchecked s a)
+      (reads_post (ap (λ z. z.level) (shown_Unchecked s a))
+      (λ top may. opens_in {g = of_checked (suc n) (below block blocks limit (suc n))} (λ ts m rest d. from_counted top n (below block blocks limit n) ts m rest (inr (inr (inr d))))
+      (opens_takes (kw_checked ∷ kw_unchecked ∷ []) (λ t. t) (lexeme.Keyword 69) refl
+      (λ t e. opens_takes (paren ∷ []) (λ _. tt) (lexeme.Sign 2) refl
+      (λ _ _. opens_then x
+      (λ b p. opens_takes (unparen ∷ []) (λ _. tt) (lexeme.Sign 3) refl
+      (λ _ _. opens_end (postfixes (suc n) (below block blocks limit (suc n))) (checked_of t b) (record { same = unchecked_same s t a b.form e p.same; tall = ap (λ j. j + 1) p.tall }))))))))
+
+  pub says_type_in : (n : ℕ) (t : TypeForm) → IsType limit t → Spells (ty (below block blocks limit n).ranks) (layout.type_pieces t) (SameType t)
+  says_type_in n t h = subst (λ r. Spells (ty r) (layout.type_pieces t) (SameType t)) (sym (ranks_are block blocks limit n)) (says_type limit t h)
+
+  pub reads_default : (n : ℕ) (margin : List ℕ) (s : Spot) (t : TypeForm) → IsType limit t
+      → Reads (suc n) (below block blocks limit (suc n)) (form.Default s t) 1 ((form_shown (form.Default s t)).pieces margin)
+  unfolding fixed
+  reads_default n margin s t h =
+      at_shown margin _ (shown_Default s t)
+      (reads_post (ap (λ z. z.level) (shown_Default s t))
+      (λ top may. opens_in {g = of_default (suc n) (below block blocks limit (suc n))} (λ ts m rest d. from_counted top n (below block blocks limit n) ts m rest (inr (inr (inl d))))
+      (opens_takes (kw_default ∷ []) spot_of (lexeme.Keyword 14) refl
+      (λ u _. opens_takes (paren ∷ []) (λ _. tt) (lexeme.Sign 2) refl
+      (λ _ _. opens_then (says_type_in (suc n) t h)
+      (λ v q. opens_takes (unparen ∷ []) (λ _. tt) (lexeme.Sign 3) refl
+      (λ _ _. opens_end (postfixes (suc n) (below block blocks limit (suc n))) (default_of (spot_of u) v) (record { same = same_Default (spot_of u) s v t (same_type t v q); tall = refl }))))))))
