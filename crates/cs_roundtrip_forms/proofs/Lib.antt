@@ -3,3 +3,4 @@ pub mod Opening
 pub mod Leading
 pub mod Reading
 pub mod Primaries
+pub mod Operators

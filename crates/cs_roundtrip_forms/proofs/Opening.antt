@@ -109,6 +109,13 @@ opens_behind {tail = tail} {g = g} May f to x may y =
           (behind May x.opened may y);
     }
 
+-- what stands behind and ends there
+pub says_behind : {P Q : Measured → Type 0} {tail : Measured → Grammar Token Measured} {g : Grammar Token Measured} {ps qs : List Piece} (May : Measured → Type 0) (f : Measured → Grammar Token Measured)
+    → ((m : Measured) (ts : List Token) (made : Measured) (rest : List Token) → May m → (f m).derives ts made rest → (tail m).derives ts made rest)
+    → Opens tail g ps P → ((m : Measured) → P m → May m) → ((m : Measured) → P m → Spells (f m) qs Q) → Spells g (ps ++ qs) Q
+says_behind {tail = tail} {g = g} May f to x may y =
+    says_in {g = bind (opens tail g) (where_may May f)} (λ ts m rest q d. d.2 m rest (to d.0 d.1 m rest d.3.0 d.3.1)) (behind May x.opened may y)
+
 -- guarded, where the first part isn't wanted
 pub else_derives : {A : Type 0} (room : Bool) (first : List ℕ) (g h : Grammar Token A) (ts : List Token) (a : A) (rest : List Token) → h.derives ts a rest → (guarded kind room first g h).derives ts a rest
 else_derives true first g h ts a rest d = inr d

@@ -180,7 +180,7 @@ args_more inner w f h args k margin x y =
 
 -- what stands behind a primary expression
 
-room : (h n k : ℕ) → h ≡ k → k + 1 ≤ n → nat_lt h n ≡ true
+pub room : (h n k : ℕ) → h ≡ k → k + 1 ≤ n → nat_lt h n ≡ true
 room h n k e l = grind (arith, e, l)
 
 -- what holds of the fold of a layer
@@ -285,7 +285,7 @@ module _ (block : Grammar Token Block) (blocks limit : ℕ) where
       (says_else (nat_lt 0 n) (paren ∷ []) (bind (arguments inner) (λ args. gives (base_call (spot_of t) y args)))
       (says_nothing (leaf (form.BaseMember (spot_of t) y) (spot_of t)) (record { same = same_BaseMember (spot_of t) s y x (name_same y x x.text e refl); tall = refl })))))))))
 
-  some : (k : ℕ) → nat_lt 0 (suc k) ≡ true
+  pub some : (k : ℕ) → nat_lt 0 (suc k) ≡ true
   some k = grind arith
 
   pub opens_base_call : (n : ℕ) (margin : List ℕ) (s : Spot) (x : Name) (args : List Arg) (k : ℕ) → ArgsRead (at n (below block blocks limit n)) args k margin → (top : Top)
