@@ -4,3 +4,4 @@ pub mod Leading
 pub mod Reading
 pub mod Primaries
 pub mod Operators
+pub mod Casts
