@@ -1,35 +1,27 @@
 -- Casts and lambdas are read: what begins with a type in parentheses.
-use Rattle.std.proofs.Common.{◌≡◌, ◌⊎◌, inl, inr, ℕ, zero, suc, ◌+◌, ◌≤◌, ◌<◌, ◌||◌, Bool, true, false, cond, List, [], ◌∷◌, ◌++◌, Option, Some, None, map, All, refl, sym, ◌∙◌, ap, subst, nat_lt, codes, arith}
-use Rattle.std.proofs.lemmas.List.{append-nil, append_assoc}
+use Rattle.std.proofs.Common.{◌≡◌, inl, inr, ℕ, zero, suc, ◌+◌, ◌≤◌, ◌||◌, List, [], ◌∷◌, ◌++◌, Option, Some, refl, sym, ◌∙◌, ap, subst, nat_lt, codes, arith}
+use Rattle.std.proofs.lemmas.List.{append-nil}
 use Rattle.cs_token.specs.Placed.{Placed as Token}
 use Rattle.cs_token.specs.declared.lexeme.Lexeme.TheVariants as lexeme
 use Rattle.cs_tree.specs.declared.types.Spot.{Spot}
-use Rattle.cs_tree.specs.declared.types.Name.{Name}
 use Rattle.cs_tree.specs.declared.types.TypeName.{TypeName}
 use Rattle.cs_tree.specs.declared.types.TypeName.TheVariants as type_name
 use Rattle.cs_tree.specs.declared.types.TypeForm.{TypeForm}
-use Rattle.cs_tree.specs.declared.types.Param.{Param}
-use Rattle.cs_tree.specs.declared.types.Way.{Way}
-use Rattle.cs_tree.specs.declared.types.Way.TheVariants as passed
 use Rattle.cs_tree.specs.declared.forms.Form.{Form}
 use Rattle.cs_tree.specs.declared.forms.Form.TheVariants as form
 use Rattle.cs_tree.specs.declared.forms.Block.{Block}
 use Rattle.cs_tree.specs.declared.forms.Action.TheOpen.{Form-F}
 use Rattle.cs_tree.specs.declared.forms.Action.TheFolds.{fold-roll-Form}
-use Rattle.cs_tree.specs.Bare.{bare_form, bare_param, bare_block}
 use Rattle.cs_productions.specs.declared.values.Measured.{Measured}
 use Rattle.cs_productions.specs.declared.values.Lead.{Lead}
-use Rattle.cs_productions.specs.declared.values.Lead.TheVariants as led
-use Rattle.cs_productions.specs.declared.values.Part.TheVariants as part
-use Rattle.cs_grammar.specs.Grammar.{Grammar, gives, bind, either, guarded, turns}
-use Rattle.cs_productions.specs.Kinds.{names, paren, unparen, bracket, unbracket, question, global, colons, arrow, keyword_types, expression_kinds, kw_ref, kw_out}
-use Rattle.cs_productions.specs.Tokens.{kind, sign, spot_of, any_name}
-use Rattle.cs_productions.specs.Types.{global_type, array_of, ranks, type_of_keyword}
+use Rattle.cs_grammar.specs.Grammar.{Grammar, gives, either}
+use Rattle.cs_productions.specs.Kinds.{names, paren, unparen, bracket, unbracket, question, global, colons, keyword_types, expression_kinds, kw_ref, kw_out}
+use Rattle.cs_productions.specs.Tokens.{kind, spot_of}
+use Rattle.cs_productions.specs.Types.{global_type, array_of}
 use Rattle.cs_productions.specs.Inner.{Inner}
-use Rattle.cs_productions.specs.Calls.{postfixes}
 use Rattle.cs_productions.specs.Primaries.{path_alone, called_path, global_leaf}
-use Rattle.cs_productions.specs.Operators.{in_parentheses, casting, cast_of, cast_to, path_layer, no_path, path_of, closed_form, closed, led_in, behind_type, keyword_in, plain_in, lambda_from_type, lambda_in, form_in, behind_paren, of_paren, multiplicative, additive, shift, relational, equality, and, exclusive_or, inclusive_or, conditional_and, conditional_or, choosing, conditional, form_led, type_led, rest_of_form, named_led, array_led, index_led, bracket_led, called_led, unnamed_led, path_led, name_led, lead}
-use Rattle.cs_productions.specs.Levels.{forms_at, at, below}
+use Rattle.cs_productions.specs.Operators.{casting, cast_of, path_layer, no_path, path_of, closed_form, closed, led_in, keyword_in, plain_in, lambda_from_type, lambda_in, form_in, of_paren, additive, shift, relational, equality, and, exclusive_or, inclusive_or, conditional_and, conditional_or, choosing, conditional, form_led, type_led, rest_of_form, named_led, index_led, bracket_led, called_led, unnamed_led, name_led, lead}
+use Rattle.cs_productions.specs.Levels.{at, below}
 use Rattle.cs_layout.specs.Pieces.{Piece, token}
 use Rattle.cs_layout.specs.declared.fixed.Fixed.TheVariants as fixed_part
 use Rattle.cs_layout.specs.Words as layout
@@ -40,8 +32,8 @@ use Rattle.cs_wellformed.specs.Standing.{levels_cast}
 use Rattle.cs_wellformed.proofs.Shown.{shown_Cast}
 use Rattle.cs_wellformed.proofs.Same.{same_Cast}
 use Rattle.cs_roundtrip_types.specs.Spells.{lexemes, Spells}
-use Rattle.cs_roundtrip_types.proofs.Spelling.{says_nothing, skips, takes, says_then, says_made, says_so, says_like, says_in, says_first, says_second, says_else}
-use Rattle.cs_roundtrip_types.proofs.Types.{IsNamed, SameType, same_type, says_path, says_keyword_type, says_ranks}
+use Rattle.cs_roundtrip_types.proofs.Spelling.{says_nothing, takes, says_then, says_made, says_so, says_like, says_in, says_first, says_second, says_else}
+use Rattle.cs_roundtrip_types.proofs.Types.{IsNamed, same_type, says_path, says_keyword_type, says_ranks}
 use Rattle.cs_roundtrip_forms.specs.Reading.{IsRead, Reads}
 use Rattle.cs_roundtrip_forms.proofs.Opening.{else_derives}
 use Rattle.cs_roundtrip_forms.proofs.Leading.{from_paren}

@@ -1,22 +1,22 @@
 -- Where a primary expression stands at the front of an expression, of a statement, and in parentheses.
-use Rattle.std.proofs.Common.{◌≡◌, ◌⊎◌, inl, inr, ℕ, zero, suc, ◌||◌, ◌==◌, Bool, true, false, List, [], ◌∷◌, ◌++◌, Option, Some, None, refl, sym, ◌∙◌, ap, subst, nat_lt, arith}
+use Rattle.std.proofs.Common.{◌≡◌, ◌⊎◌, inl, inr, ℕ, suc, ◌||◌, ◌==◌, Bool, true, false, List, [], ◌∷◌, ◌++◌, Option, Some, None, refl, ◌∙◌, ap, subst, nat_lt, arith}
 use Rattle.cs_token.specs.Placed.{Placed as Token}
 use Rattle.cs_tree.specs.declared.types.Spot.{Spot}
 use Rattle.cs_tree.specs.declared.types.TypeForm.{TypeForm}
 use Rattle.cs_productions.specs.declared.values.Measured.{Measured}
 use Rattle.cs_productions.specs.declared.values.Part.TheVariants as part
 use Rattle.cs_grammar.specs.Kinds.{has}
-use Rattle.cs_grammar.specs.Grammar.{Grammar, gives, one, bind, either, guarded, TakesOne}
+use Rattle.cs_grammar.specs.Grammar.{gives, bind, either, guarded, TakesOne}
 use Rattle.cs_productions.specs.Kinds.{names, paren, unparen, bracket, simple_kinds, counted_kinds, unary_operators, expression_kinds, global, colons, kw_ref, kw_out, kw_base}
 use Rattle.cs_productions.specs.Tokens.{kind, sign, simple_of}
 use Rattle.cs_productions.specs.Types.{global_type}
 use Rattle.cs_productions.specs.Inner.{Inner}
-use Rattle.cs_productions.specs.Calls.{postfixes, index_of, one_index}
+use Rattle.cs_productions.specs.Calls.{postfixes, index_of}
 use Rattle.cs_productions.specs.Primaries.{path_alone, called_path, indexed, behind_path, global_path, of_global, of_base, of_simple}
-use Rattle.cs_productions.specs.Operators.{in_parentheses, closed_form, closed, path_of, led_in, plain_in, lambda_in, form_in, keyword_in, of_paren, of_counted, of_plain, plain_operand, operand, signed, unary, plain_unary, conditional, form_led, rest_of_form, named_led, array_led, index_led, unnamed_led, path_led, name_led, lead}
+use Rattle.cs_productions.specs.Operators.{in_parentheses, closed_form, path_of, led_in, plain_in, lambda_in, form_in, of_paren, of_counted, of_plain, plain_operand, operand, signed, unary, plain_unary, conditional, form_led, rest_of_form, named_led, array_led, index_led, unnamed_led, path_led, name_led, lead}
 use Rattle.cs_productions.specs.Levels.{forms_at, at}
 use Rattle.cs_statements.specs.Kinds.{name_kinds, unnamed_kinds}
-use Rattle.cs_statements.specs.Actions.{parenthesized, counted_primary, of_named, of_unnamed, unnamed_primary, primary}
+use Rattle.cs_statements.specs.Actions.{parenthesized, counted_primary, of_named, of_unnamed, primary}
 use Rattle.cs_roundtrip_forms.specs.Standing.{Top, operands, primaries, top_at}
 use Rattle.cs_roundtrip_forms.proofs.Opening.{else_derives, where_derives}
 
@@ -67,7 +67,7 @@ global_leads k i ts a mid m rest d c = (d.0, d.1, d.2, go d.3)
 whole_split : (k : ℕ) (i : Inner) (ts : List Token) (m : Measured) (rest : List Token) → (forms_at k i part.Whole).derives ts m rest
     → (lead k i).derives ts (form_led m) rest ⊎ (forms_at k i part.Plain).derives ts m rest
 whole_split k i ts m rest d = elim (unary_split k i ts d.0 d.1 d.2) [
-  inl g ↦ inl (global_leads k i ts d.0 d.1 m rest g d.3)
+  | inl g ↦ inl (global_leads k i ts d.0 d.1 m rest g d.3)
   | inr p ↦ inr (d.0, d.1, p, d.3)
 ]
 
@@ -78,9 +78,12 @@ closed_derives n inner s a None ts m rest d = d
 closed_derives n inner s a (Some t) ts m rest d = inr d
 
 paren_in : (k : ℕ) (i : Inner) (ts : List Token) (m : Measured) (rest : List Token) → (parenthesized (suc k) (at k i)).derives ts m rest → (of_paren (suc k) (at k i)).derives ts m rest
-paren_in k i ts m rest d =
-    (d.0, d.1, d.2,
-    else_derives (nat_lt 0 i.blocks) (unparen ∷ kw_ref ∷ kw_out ∷ []) (lambda_in (suc k) (at k i) d.0) (form_in (suc k) (at k i) d.0) d.1 m rest (inr (go (whole_split k i d.1 d.3.0 d.3.1 d.3.2))))
+paren_in k i ts m rest d = (
+  d.0,
+  d.1,
+  d.2,
+  else_derives (nat_lt 0 i.blocks) (unparen ∷ kw_ref ∷ kw_out ∷ []) (lambda_in (suc k) (at k i) d.0) (form_in (suc k) (at k i) d.0) d.1 m rest (inr (go (whole_split k i d.1 d.3.0 d.3.1 d.3.2))),
+)
   where
     go : (lead k i).derives d.1 (form_led d.3.0) d.3.1 ⊎ (forms_at k i part.Plain).derives d.1 d.3.0 d.3.1
         → (either kind (global ∷ []) (led_in (suc k) (at k i) d.0) (plain_in (suc k) (at k i) d.0)).derives d.1 m rest
@@ -97,7 +100,7 @@ some k = grind arith
 pub from_counted : (top : Top) (k : ℕ) (i : Inner) (ts : List Token) (m : Measured) (rest : List Token) → (counted_primary (suc k) (at k i)).derives ts m rest → (top_at top (suc k) (at k i)).derives ts m rest
 from_counted operands k i ts m rest d =
     inr (where_derives (nat_lt 0 (suc k)) counted_kinds (of_counted (suc k) (at k i)) (of_plain (suc k) (at k i)) ts m rest (some k) (elim d [
-      inl e ↦ inl (paren_in k i ts m rest e)
+      | inl e ↦ inl (paren_in k i ts m rest e)
       | inr e ↦ inr e
     ]))
 from_counted primaries k i ts m rest d =
@@ -132,13 +135,13 @@ named_or_not : (n : ℕ) (inner : Inner) (ts : List Token) (a : Measured) (mid :
     → (postfixes n inner a).derives mid m rest → (of_named n inner).derives ts m rest ⊎ (of_unnamed n inner).derives ts m rest
 named_or_not n inner [] a mid m rest d p = absurd d
 named_or_not n inner (t ∷ ts) a mid m rest d p = elim (has_parts name_kinds unnamed_kinds (kind t) d.0) [
-  inl h ↦ inl (a, mid, (h, d.1, d.2), p)
+  | inl h ↦ inl (a, mid, (h, d.1, d.2), p)
   | inr h ↦ inr (a, mid, (h, d.1, d.2), p)
 ]
 
 pub from_simple : (top : Top) (n : ℕ) (inner : Inner) (ts : List Token) (m : Measured) (rest : List Token) → (of_simple n inner).derives ts m rest → (top_at top n inner).derives ts m rest
 from_simple operands n inner ts m rest d = plain_from n inner ts m rest (inr d)
 from_simple primaries n inner ts m rest d = elim (named_or_not n inner ts d.0 d.1 m rest d.2 d.3) [
-  inl e ↦ inr (inl e)
+  | inl e ↦ inr (inl e)
   | inr e ↦ unnamed_from n inner ts m rest (inr e)
 ]

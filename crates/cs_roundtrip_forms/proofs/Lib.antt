@@ -5,3 +5,7 @@ pub mod Reading
 pub mod Primaries
 pub mod Operators
 pub mod Casts
+pub mod Lambdas
+pub mod Forms
+-- laws::expressions_are_read_back
+pub mod Whole

@@ -1,21 +1,19 @@
 -- Values behind which more may stand, and levels of operators.
-use Rattle.std.proofs.Common.{◌≡◌, ◌⊎◌, inl, inr, ℕ, zero, suc, ◌+◌, ◌≤◌, ◌<◌, Bool, true, false, List, [], ◌∷◌, ◌++◌, refl, sym, ◌∙◌, ap, subst, nat_lt, arith}
+use Rattle.std.proofs.Common.{◌≡◌, inl, inr, ℕ, zero, suc, ◌≤◌, Bool, true, false, List, [], ◌∷◌, ◌++◌, refl, sym, subst, nat_lt, arith}
 use Rattle.std.proofs.Math.Nat.{eq-or-lt_of_le}
 use Rattle.cs_token.specs.Placed.{Placed as Token}
 use Rattle.cs_token.specs.Tokens.{kind_of}
 use Rattle.cs_token.specs.declared.lexeme.Lexeme.{Lexeme}
 use Rattle.cs_productions.specs.declared.values.Measured.{Measured}
-use Rattle.cs_productions.specs.declared.values.Part.TheVariants as part
 use Rattle.cs_grammar.specs.Kinds.{has}
-use Rattle.cs_grammar.specs.Grammar.{Grammar, gives, one, bind, either, guarded, turns}
+use Rattle.cs_grammar.specs.Grammar.{Grammar, gives, one, bind, guarded, turns}
 use Rattle.cs_layout.specs.Pieces.{Piece, gap, token}
 use Rattle.cs_productions.specs.Kinds.{question, unary_operators}
 use Rattle.cs_productions.specs.Tokens.{kind}
 use Rattle.cs_productions.specs.Inner.{Inner}
-use Rattle.cs_productions.specs.Calls.{postfixes}
 use Rattle.cs_productions.specs.Operators.{operand, unary, signed, choosing}
 use Rattle.cs_roundtrip_types.specs.Spells.{lexemes, Spells}
-use Rattle.cs_roundtrip_types.proofs.Spelling.{says_nothing, skips, takes, says_then, says_made, says_in, says_so, says_like, says_first, says_second, says_where, says_else}
+use Rattle.cs_roundtrip_types.proofs.Spelling.{says_nothing, skips, takes, says_then, says_made, says_in, says_so, says_like}
 use Rattle.cs_roundtrip_forms.specs.Standing.{derivation, opens, Opens, standing, rounds}
 
 -- grammars that end in a tail
@@ -161,6 +159,6 @@ pub lower : {P : Measured → Type 0} (level w n : ℕ) (inner : Inner) {ps : Li
 lower zero zero n inner l x = x
 lower zero (suc w) n inner l x = absurd (omega (arith, l))
 lower {P = P} (suc k) w n inner {ps} l x = elim (eq-or-lt_of_le l) [
-  inl e ↦ subst (λ j. Spells (standing j n inner) ps P) (sym e) x
+  | inl e ↦ subst (λ j. Spells (standing j n inner) ps P) (sym e) x
   | inr h ↦ lower k w n inner (omega (arith, l, h)) (closes (no_rounds k n inner) (opens_level k n inner x))
 ]

@@ -1,5 +1,5 @@
 -- Operators are read.
-use Rattle.std.proofs.Common.{◌≡◌, ◌⊎◌, inl, inr, ℕ, zero, suc, ◌+◌, ◌≤◌, ◌<◌, ◌==◌, ◌||◌, ◌&&◌, max, Bool, true, false, cond, List, [], ◌∷◌, ◌++◌, refl, sym, ◌∙◌, ap, subst, nat_lt, arith}
+use Rattle.std.proofs.Common.{◌≡◌, inl, inr, ℕ, suc, ◌+◌, ◌≤◌, ◌<◌, ◌==◌, ◌||◌, ◌&&◌, max, Bool, true, false, cond, List, [], ◌∷◌, ◌++◌, refl, ◌∙◌, ap, nat_lt, arith}
 use Rattle.cs_token.specs.Placed.{Placed as Token}
 use Rattle.cs_token.specs.Tokens.{kind_of}
 use Rattle.cs_token.specs.declared.lexeme.Lexeme.TheVariants as lexeme
@@ -22,7 +22,7 @@ use Rattle.cs_productions.specs.Kinds.{question, colon, unary_operators, multipl
 use Rattle.cs_productions.specs.Tokens.{kind, spot_of, unary_of, binary_of}
 use Rattle.cs_productions.specs.Inner.{Inner}
 use Rattle.cs_productions.specs.Operators.{operand, signed_of, binary_form, one_binary, test_form, one_test, one_relation, conditional_of, choosing}
-use Rattle.cs_productions.specs.Levels.{forms_at, at, below}
+use Rattle.cs_productions.specs.Levels.{forms_at, below}
 use Rattle.cs_layout.specs.Pieces.{Piece}
 use Rattle.cs_layout.specs.declared.fixed.Fixed.TheVariants as fixed_part
 use Rattle.cs_layout.specs.Words as layout
@@ -33,8 +33,8 @@ use Rattle.cs_wellformed.specs.Standing.{levels_at_least, levels_signed}
 use Rattle.cs_wellformed.proofs.Shown.{shown_Unary, shown_Binary, shown_Is, shown_As, shown_Conditional}
 use Rattle.cs_wellformed.proofs.Same.{same_Unary, same_Binary, same_Is, same_As, same_Conditional}
 use Rattle.cs_roundtrip_types.specs.Spells.{Spells}
-use Rattle.cs_roundtrip_types.proofs.Spelling.{says_nothing, skips, takes, says_then, says_made, says_first, says_second, says_where}
-use Rattle.cs_roundtrip_types.proofs.Types.{SameType, same_type}
+use Rattle.cs_roundtrip_types.proofs.Spelling.{skips, takes, says_then, says_made, says_first, says_second, says_where}
+use Rattle.cs_roundtrip_types.proofs.Types.{same_type}
 use Rattle.cs_roundtrip_forms.specs.Standing.{Opens, standing, rounds}
 use Rattle.cs_roundtrip_forms.specs.Reading.{IsRead, Reads}
 use Rattle.cs_roundtrip_forms.proofs.Opening.{opens_round, opens_level, says_behind, where_derives}

@@ -1,5 +1,5 @@
 -- Primary expressions without lambdas are read.
-use Rattle.std.proofs.Common.{◌≡◌, ◌⊎◌, inl, inr, ℕ, zero, suc, ◌+◌, ◌-◌, ◌≤◌, ◌<◌, ◌==◌, max, Bool, true, false, cond, List, [], ◌∷◌, ◌++◌, map, refl, sym, ◌∙◌, ap, subst, nat_lt, codes, arith}
+use Rattle.std.proofs.Common.{◌≡◌, ◌⊎◌, inl, inr, ℕ, suc, ◌+◌, ◌-◌, ◌≤◌, ◌==◌, max, Bool, true, false, cond, List, [], ◌∷◌, ◌++◌, map, refl, sym, ◌∙◌, ap, subst, nat_lt, codes, arith}
 use Rattle.std.specs.Str.{bytes_eq}
 use Rattle.std.proofs.lemmas.List.{append-nil, append_assoc, map-append}
 use Rattle.cs_token.specs.Placed.{Placed as Token}
@@ -26,31 +26,30 @@ use Rattle.cs_productions.specs.declared.values.Measured.{Measured}
 use Rattle.cs_productions.specs.declared.values.Args.{Args}
 use Rattle.cs_productions.specs.declared.values.Part.TheVariants as part
 use Rattle.cs_grammar.specs.Kinds.{has}
-use Rattle.cs_grammar.specs.Grammar.{Grammar, gives, one, bind, either, guarded, turns}
-use Rattle.cs_productions.specs.Kinds.{names, simple_kinds, global, colons, paren, unparen, bracket, unbracket, dot, comma, kw_base, kw_new, kw_default, kw_checked, kw_unchecked}
-use Rattle.cs_productions.specs.Tokens.{kind, sign, place, spot_of, text_of, text_of_lexeme, any_name, leaf, simple, simple_of, simple_form}
-use Rattle.cs_productions.specs.Types.{path, named_type, ranks, ty, way}
+use Rattle.cs_grammar.specs.Grammar.{Grammar, gives, bind, guarded, turns}
+use Rattle.cs_productions.specs.Kinds.{simple_kinds, global, colons, paren, unparen, bracket, unbracket, dot, comma, kw_base, kw_new, kw_default, kw_checked, kw_unchecked}
+use Rattle.cs_productions.specs.Tokens.{kind, spot_of, text_of_lexeme, leaf, simple_of, simple_form}
+use Rattle.cs_productions.specs.Types.{ty}
 use Rattle.cs_productions.specs.Inner.{Inner}
-use Rattle.cs_productions.specs.Calls.{no_args, with_arg, one_arg, one_more_arg, no_more_args, some_args, arguments, called, call_of, member_of, one_member, index_of, one_index, postfixes}
+use Rattle.cs_productions.specs.Calls.{no_args, with_arg, one_arg, one_more_arg, no_more_args, some_args, arguments, call_of, member_of, one_member, index_of, one_index, postfixes}
 use Rattle.cs_productions.specs.Primaries.{base_call, of_base, global_call, called_path, indexed, path_alone, behind_path, global_path, global_leaf, of_global, new_object, of_new_object, new_array, with_member, behind_array, of_new_array, of_new, default_of, of_default, checked_of, of_checked, of_simple}
 use Rattle.cs_productions.specs.Levels.{forms_at, at, below}
-use Rattle.cs_statements.specs.Actions.{counted_primary}
 use Rattle.cs_layout.specs.Pieces.{Piece, gap, token}
 use Rattle.cs_layout.specs.declared.fixed.Fixed.TheVariants as fixed_part
 use Rattle.cs_layout.specs.Words as layout
 use Rattle.cs_layout.specs.Words.{fixed, name}
 use Rattle.cs_layout.specs.Layout.{Laid, Shown, form_shown, arg_laid, form_layer, at_least}
 use Rattle.cs_layout.specs.Layout as laid
-use Rattle.cs_wellformed.specs.Words.{IsName, IsLiteral, IsPath, IsTypeName, IsType}
+use Rattle.cs_wellformed.specs.Words.{IsPath, IsTypeName, IsType}
 use Rattle.cs_wellformed.specs.Standing.{is_none, is_path, path_layer, lambda_layer, begins_lambda, levels_at_least}
 use Rattle.cs_wellformed.specs.WellFormed.{arg_of}
 use Rattle.cs_wellformed.proofs.Shown.{shown_Literal, shown_Name, shown_This, shown_Member, shown_Call, shown_BaseMember, shown_BaseCall, shown_Global, shown_GlobalCall, shown_Index, shown_New, shown_NewArray, shown_Checked, shown_Unchecked, shown_Default}
 use Rattle.cs_wellformed.proofs.Parts.{shown_arg, bare_arg_is}
 use Rattle.cs_wellformed.proofs.Same.{same_Literal, same_Name, same_This, same_Member, same_Call, same_BaseMember, same_BaseCall, same_Global, same_GlobalCall, same_Index, same_New, same_NewArray, same_Checked, same_Unchecked, same_Default}
 use Rattle.cs_roundtrip_types.specs.Spells.{lexemes, Spells}
-use Rattle.cs_roundtrip_types.proofs.Spelling.{says_nothing, skips, takes, takes_last, says_then, says_made, says_so, says_like, says_in, says_first, says_second, says_where, says_else, says_no_round, says_round}
-use Rattle.cs_roundtrip_types.proofs.Types.{HasText, says_name, says_path, SameType, same_type, says_named_type, says_ranks, says_type, says_way}
-use Rattle.cs_roundtrip_forms.specs.Standing.{Opens, standing, rounds, Top, operands, top_at, member_tail, index_tail}
+use Rattle.cs_roundtrip_types.proofs.Spelling.{says_nothing, skips, takes, says_then, says_made, says_so, says_like, says_first, says_second, says_where, says_else, says_no_round, says_round}
+use Rattle.cs_roundtrip_types.proofs.Types.{says_name, says_path, SameType, same_type, says_named_type, says_ranks, says_type, says_way}
+use Rattle.cs_roundtrip_forms.specs.Standing.{Opens, Top, top_at, member_tail, index_tail}
 use Rattle.cs_roundtrip_forms.specs.Reading.{IsRead, AreRead, MayStand, Reads}
 use Rattle.cs_roundtrip_forms.proofs.Opening.{opens_end, opens_in, opens_so, opens_like, opens_skips, opens_then, opens_takes, opens_last, opens_made, opens_behind, closes, else_derives, where_derives}
 use Rattle.cs_roundtrip_forms.proofs.Leading.{from_counted, from_global, from_base, from_simple}
@@ -115,7 +114,7 @@ global_is s text t e = record { same = ap (λ x. bare_form (form.Name (spot_of t
 opens_name : (n : ℕ) (inner : Inner) (s : Spot) (text : List ℕ) (top : Top) → Opens (postfixes n inner) (top_at top n inner) (name text) (IsRead (form.Name s text) 0)
 unfolding name
 opens_name n inner s text top = elim (name_or_global text) [
-  inl is ↦ opens_simple n inner (form.Name s text) (lexeme.Name text) is (λ at. same_Name at s text) top
+  | inl is ↦ opens_simple n inner (form.Name s text) (lexeme.Name text) is (λ at. same_Name at s text) top
   | inr is ↦ opens_in {g = of_global n inner} (from_global top n inner)
       (opens_takes (global ∷ []) global_leaf (lexeme.Name text) is
       (λ t e. opens_in {g = postfixes n inner (global_leaf t)} (λ ts m rest d. inr d) (opens_end (postfixes n inner) (global_leaf t) (global_is s text t e))))

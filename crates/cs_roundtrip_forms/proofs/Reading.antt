@@ -1,5 +1,5 @@
 -- Expressions that are read, in parentheses or not.
-use Rattle.std.proofs.Common.{◌≡◌, ◌⊎◌, inl, inr, ℕ, zero, suc, ◌+◌, ◌≤◌, ◌<◌, Bool, true, false, cond, List, [], ◌∷◌, ◌++◌, refl, sym, ◌∙◌, ap, subst, nat_lt, arith}
+use Rattle.std.proofs.Common.{◌≡◌, ◌⊎◌, inl, inr, ℕ, zero, suc, ◌+◌, ◌≤◌, ◌<◌, Bool, true, false, List, [], ◌∷◌, refl, sym, ◌∙◌, ap, subst, nat_lt, arith}
 use Rattle.std.proofs.Math.Nat.{eq-or-lt_of_le}
 use Rattle.cs_token.specs.Placed.{Placed as Token}
 use Rattle.cs_token.specs.declared.lexeme.Lexeme.TheVariants as lexeme
@@ -12,14 +12,13 @@ use Rattle.cs_productions.specs.Kinds.{paren, unparen}
 use Rattle.cs_productions.specs.Tokens.{spot_of}
 use Rattle.cs_productions.specs.Inner.{Inner}
 use Rattle.cs_productions.specs.Calls.{postfixes}
-use Rattle.cs_productions.specs.Operators.{in_parentheses, operand}
+use Rattle.cs_productions.specs.Operators.{in_parentheses}
 use Rattle.cs_productions.specs.Levels.{forms_at, at, below}
 use Rattle.cs_statements.specs.Actions.{parenthesized}
 use Rattle.cs_layout.specs.Pieces.{Piece}
-use Rattle.cs_layout.specs.declared.fixed.Fixed.TheVariants as fixed_part
 use Rattle.cs_layout.specs.Words.{fixed}
 use Rattle.cs_layout.specs.Layout.{Shown, form_shown, enclosed, at_least}
-use Rattle.cs_wellformed.specs.Standing.{is_path, begins_lambda, enclosed_levels, levels_at_least}
+use Rattle.cs_wellformed.specs.Standing.{is_path, enclosed_levels, levels_at_least}
 use Rattle.cs_roundtrip_types.specs.Spells.{Spells}
 use Rattle.cs_roundtrip_forms.specs.Standing.{Opens, standing, rounds, Top, operands, top_at, member_tail, index_tail}
 use Rattle.cs_roundtrip_forms.specs.Reading.{IsRead, MayStand, Reads}
@@ -137,7 +136,7 @@ module _ (block : Grammar Token Block) (blocks limit : ℕ) where
       not_true : true ≡ false → ⊥
       not_true e = cc
   says_open false w n f h margin x l low o t = elim (eq-or-lt_of_le (low refl)) [
-    inl e ↦ subst (λ j. Opens (rounds j n (below block blocks limit n)) (standing j n (below block blocks limit n)) ((form_shown f).pieces margin) (IsRead f h)) (sym e) ((x n l margin).chains (omega (arith, e, o)) (omega (arith, e, t)))
+    | inl e ↦ subst (λ j. Opens (rounds j n (below block blocks limit n)) (standing j n (below block blocks limit n)) ((form_shown f).pieces margin) (IsRead f h)) (sym e) ((x n l margin).chains (omega (arith, e, o)) (omega (arith, e, t)))
     | inr d ↦ opens_level w n (below block blocks limit n) (lower (form_shown f).level (suc w) n (below block blocks limit n) (omega (arith, d)) (x n l margin).stands)
   ]
 

@@ -1,13 +1,18 @@
 -- Inner facts: an expression that is read.
-use Rattle.std.specs.Prelude.{◌≡◌, ℕ, ◌≤◌, ◌<◌, Bool, true, false, List, map}
+use Rattle.std.specs.Prelude.{◌≡◌, ℕ, ◌≤◌, true, false, List, map, ◌++◌}
+use Rattle.cs_token.specs.Placed.{Placed as Token}
+use Rattle.cs_tree.specs.declared.forms.Block.{Block}
 use Rattle.cs_tree.specs.declared.forms.Form.{Form}
 use Rattle.cs_tree.specs.declared.forms.Arg.{Arg}
-use Rattle.cs_tree.specs.Bare.{bare_form, bare_arg}
+use Rattle.cs_tree.specs.Bare.{bare_form, bare_arg, bare_block}
 use Rattle.cs_productions.specs.declared.values.Measured.{Measured}
 use Rattle.cs_productions.specs.declared.values.Args.{Args}
 use Rattle.cs_productions.specs.Inner.{Inner}
 use Rattle.cs_layout.specs.Pieces.{Piece}
-use Rattle.cs_layout.specs.Layout.{form_shown}
+use Rattle.cs_grammar.specs.Grammar.{Grammar}
+use Rattle.cs_layout.specs.declared.fixed.Fixed.TheVariants as part
+use Rattle.cs_layout.specs.Words.{fixed}
+use Rattle.cs_layout.specs.Layout.{form_shown, block_laid}
 use Rattle.cs_wellformed.specs.Standing.{is_path, begins_lambda}
 use Rattle.cs_roundtrip_types.specs.Spells.{Spells}
 use Rattle.cs_roundtrip_forms.specs.Standing.{Opens, standing, rounds, Top, takes_lambda, top_at, member_tail, index_tail}
@@ -33,3 +38,7 @@ pub record Reads (n : ℕ) (inner : Inner) (f : Form) (h : ℕ) (ps : List Piece
   pub primary : (top : Top) → MayStand f top → 13 ≤ (form_shown f).level → Spells (top_at top n inner) ps (IsRead f h)
   pub member : (top : Top) → MayStand f top → 13 ≤ (form_shown f).level → is_path f ≡ false → Opens (member_tail n inner) (top_at top n inner) ps (IsRead f h)
   pub index : (top : Top) → MayStand f top → 14 ≤ (form_shown f).level → Opens (index_tail n inner) (top_at top n inner) ps (IsRead f h)
+
+-- this block but for its places, from brace to brace and whatever the margin
+abbrev pub BlockIsRead : Grammar Token Block → Block → Type 0
+BlockIsRead g b = (margin : List ℕ) → Spells g (fixed part.OpenBrace ++ (block_laid b margin ++ fixed part.CloseBrace)) (λ c. bare_block c ≡ bare_block b)

@@ -1,12 +1,11 @@
 -- Inner facts: the productions of expressions, level by level.
-use Rattle.std.specs.Prelude.{◌≡◌, ℕ, zero, suc, ◌+◌, Bool, true, false, List, [], ◌∷◌, nat_lt, Err}
+use Rattle.std.specs.Prelude.{◌≡◌, ℕ, zero, suc, Bool, true, false, List, [], ◌∷◌, nat_lt, Err}
 use Rattle.cs_token.specs.Placed.{Placed as Token}
 use Rattle.cs_productions.specs.declared.values.Measured.{Measured}
 use Rattle.cs_productions.specs.declared.values.Part.TheVariants as part
 use Rattle.cs_grammar.specs.Grammar.{Grammar, gives, ◌>>=◌}
 use Rattle.cs_productions.specs.Kinds.{multiplicative_operators, additive_operators, shift_operators, equality_operators, amp, caret, bar, both, either_one}
 use Rattle.cs_productions.specs.Inner.{Inner}
-use Rattle.cs_productions.specs.Calls.{postfixes}
 use Rattle.cs_productions.specs.Primaries.{with_member, indexed}
 use Rattle.cs_productions.specs.Operators.{operand, unary, binaries, relations, conditional_or, chosen}
 use Rattle.cs_productions.specs.Levels.{forms_at}
