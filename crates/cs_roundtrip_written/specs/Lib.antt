@@ -1,0 +1,4 @@
+-- What a reader must believe.
+pub mod Laws
+-- Inner facts, which only serve proofs.
+pub mod Sound
