@@ -1,0 +1,5 @@
+-- What the crate's proofs cite.
+pub mod Stable
+pub mod Judging
+pub mod Order
+pub mod Items
