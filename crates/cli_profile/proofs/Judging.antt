@@ -1,5 +1,6 @@
 -- Each failing row is one that is asked, and a row of a table that no assembly of the profile has fails.
-use Rattle.std.proofs.Common.{◌≡◌, ℕ, ◌+◌, ◌-◌, ◌<◌, ◌≤◌, refl, inl, inr, arith}
+use Rattle.std.proofs.Common.{◌≡◌, ℕ, ◌+◌, ◌-◌, ◌^◌, ◌<◌, ◌≤◌, refl, inl, inr, arith}
+use Rattle.std.proofs.lemmas.Bool.{cases_lt}
 use Rattle.cli_conditions.specs.declared.condition.Condition.{Condition}
 use Rattle.cli_conditions.specs.declared.condition.Condition.TheVariants as conditions
 use Rattle.cli_metadata.specs.declared.tables.Table.{Table}
@@ -115,3 +116,43 @@ barred ExportedType s k other lt none = none conditions.Modules (row s tables.Ex
 barred GenericParam s k other lt none = none conditions.Generic (row s tables.GenericParam k lt)
 barred MethodSpec s k other lt none = none conditions.Generic (row s tables.MethodSpec k lt)
 barred GenericParamConstraint s k other lt none = none conditions.Generic (row s tables.GenericParamConstraint k lt)
+
+-- ---- the number of the first row that fails fits three bytes
+
+fits_barred : (judged : Judged) (s : Subject) (k : ℕ) → (IsSifted judged → ⊥) → k < asked judged s → ((m : ℕ) → m < k → FailsNone judged s m) → k + 1 < 2 ^ 24
+fits_barred judged s k other lt before = elim (cases_lt 0 k) [
+  | inl behind ↦ absurd (barred judged s 0 other (omega (arith, lt)) (before 0 behind))
+  | inr first ↦ omega (arith, first)
+]
+
+fits_assembly : (s : Subject) (k : ℕ) → k < asked Assembly s → ((m : ℕ) → m < k → FailsNone Assembly s m) → k + 1 < 2 ^ 24
+fits_assembly s k lt before = elim (cases_lt 1 k) [
+  | inl behind ↦ absurd (before 1 behind conditions.Modules (inl (omega arith, record { low = omega arith; high = omega (arith, lt, behind) })))
+  | inr low ↦ omega (arith, low)
+]
+
+pub fits : (judged : Judged) (s : Subject) (k : ℕ) → rows_of s.metadata tables.Field < 2 ^ 24 → rows_of s.metadata tables.MethodDef < 2 ^ 24 → rows_of s.metadata tables.TypeSpec < 2 ^ 24 → k < asked judged s → ((m : ℕ) → m < k → FailsNone judged s m) → k + 1 < 2 ^ 24
+fits Field s k fields methods specs lt before = omega (arith, fields, lt)
+fits MethodDef s k fields methods specs lt before = omega (arith, methods, lt)
+fits TypeSpec s k fields methods specs lt before = omega (arith, specs, lt)
+fits Assembly s k fields methods specs lt before = fits_assembly s k lt before
+fits judged s k fields methods specs lt before = fits_barred judged s k (λ sifted. sifted) lt before
+
+-- ---- assemblies
+
+pub no_assembly : (s : Subject) (k : ℕ) → rows_of s.metadata tables.Assembly ≡ 0 → k ≡ 0 → FailsNone Assembly s k → ⊥
+no_assembly s k empty first none = none conditions.Modules (inr (omega (arith, first), empty))
+
+pub other_assembly : (s : Subject) (k : ℕ) → (k ≡ 0 → ⊥) → k < asked Assembly s → FailsNone Assembly s k → ⊥
+other_assembly s k behind lt none = elim (cases_lt 0 k) [
+  | inl more ↦ none conditions.Modules (inl (omega (arith, more), record { low = omega arith; high = omega (arith, lt, more) }))
+  | inr zero ↦ behind (omega (arith, zero))
+]
+
+-- a table that is none of the four
+pub unsifted : (judged : Judged) → (judged ≡ Field → ⊥) → (judged ≡ MethodDef → ⊥) → (judged ≡ TypeSpec → ⊥) → (judged ≡ Assembly → ⊥) → IsSifted judged → ⊥
+unsifted Field field method spec assembly h = field refl
+unsifted MethodDef field method spec assembly h = method refl
+unsifted TypeSpec field method spec assembly h = spec refl
+unsifted Assembly field method spec assembly h = assembly refl
+unsifted _ field method spec assembly h = h

@@ -68,9 +68,10 @@ each_is_among GenericParamConstraint = inr (inr (inr (inr (inr (inr (inr (inr (i
 
 -- ---- what the tables in their order say
 
--- the row that is found fails
+-- the row that is found is the first of its table that fails
 pub record IsFound (s : Subject) (p : Judged × ℕ) : Type 0 where
   pub within : p.1 < asked p.0 s
+  pub before : (m : ℕ) → m < p.1 → FailsNone p.0 s m
   pub fails : FailsNone p.0 s p.1 → ⊥
 
 -- it is a row of its table, and the rows before it fail nothing
@@ -95,6 +96,7 @@ found s [] p h = absurd (not_both tt p (sym h))
 found s (x ∷ xs) p h = elim (then_fault (OfRow asked FailsNone s x) (λ _. InOrder (OfRow asked FailsNone s) xs) p h) [
   | inl here ↦ (let it = found_in s x p here in record {
     within = subst (λ (j : Judged). p.1 < asked j s) (sym it.its) it.within;
+    before = subst (λ (j : Judged). (m : ℕ) → m < p.1 → FailsNone j s m) (sym it.its) it.before;
     fails = subst (λ (j : Judged). FailsNone j s p.1 → ⊥) (sym it.its) it.fails;
   })
   | inr rest ↦ found s xs p rest.2
@@ -169,9 +171,9 @@ first s p c broken at g fails comes =
         | inr rest ↦ elim rest [
           | inl rows ↦ omega (arith, it.low, same.1, rows.1)
           | inr places ↦ at.first g.condition places.2 (
-            subst (λ (n : ℕ). Fails s g.condition (table_of p.0) n) places.1
-            (subst (λ (t : Table). Fails s g.condition t g.row) (it.is ∙ ap (λ (j : Judged). table_of j) (sym same.0)) fails)
-          )
+              subst (λ (n : ℕ). Fails s g.condition (table_of p.0) n) places.1
+              (subst (λ (t : Table). Fails s g.condition t g.row) (it.is ∙ ap (λ (j : Judged). table_of j) (sym same.0)) fails)
+              )
         ]
       ])
     ]

@@ -1,5 +1,5 @@
 -- A failure that isn't excluded is there.
-use Rattle.std.proofs.Common.{◌≡◌, ◌⊎◌, ℕ, ◌+◌, ◌-◌, ◌<◌, ◌≤◌, Bool, true, false, List, Option, None, Some, refl, inl, inr, arith}
+use Rattle.std.proofs.Common.{◌≡◌, ◌⊎◌, ℕ, ◌+◌, ◌-◌, ◌<◌, ◌≤◌, Bool, true, false, List, Option, None, Some, refl, sym, subst, inl, inr, arith}
 use Rattle.std.specs.Prelude.{slice_get}
 use Rattle.std.proofs.lemmas.Bool.{cases_lt}
 use Rattle.cli_conditions.specs.declared.condition.Condition.{Condition}
@@ -9,6 +9,7 @@ use Rattle.cli_metadata.specs.declared.tables.Table.TheVariants as tables
 use Rattle.cli_metadata.specs.Metadata.{rows_of}
 use Rattle.cli_lists.specs.Starts.{IsInList}
 use Rattle.cli_lists.specs.Lists.{lists_of}
+use Rattle.cli_profile.specs.declared.judged.Judged.{Judged}
 use Rattle.cli_profile.specs.declared.judged.Judged.TheVariants.{Field, MethodDef, TypeSpec, Assembly}
 use Rattle.cli_profile.specs.Methods.{IsRow, IsForeign}
 use Rattle.cli_profile.specs.Rows.{Subject, IsModules, IsModuleMember, IsOfModule, IsReached, IsOtherSpec}
@@ -35,6 +36,12 @@ stays_true (Some true) not = refl
 stays_true (Some false) not = absurd (not (λ e. absurd cc))
 stays_true None not = absurd (not (λ e. absurd cc))
 
+-- the failure of a table that is this one
+carried : (s : Subject) (j i : Judged) (k : ℕ) (c : Condition) → j ≡ i → (k < asked i s → (FailsNone i s k → ⊥) → FailsAt i s k c) → k < asked j s → (FailsNone j s k → ⊥) → FailsAt j s k c
+carried s j i k c is there lt not =
+    subst (λ (x : Judged). FailsAt x s k c) (sym is)
+    (there (subst (λ (x : Judged). k < asked x s) is lt) (subst (λ (x : Judged). FailsNone x s k → ⊥) is not))
+
 -- ---- fields
 
 field_fails : (s : Subject) (n : ℕ) (c : Condition) → Fails s c tables.Field n → IsModuleMember s tables.Field n
@@ -45,14 +52,17 @@ field_first : (s : Subject) (n : ℕ) (d : Condition) → place_of d < 10 → Fa
 field_first s n conditions.ModuleMember lt h = absurd (omega (arith, lt))
 field_first s n _ lt h = h
 
-pub field : (s : Subject) (k : ℕ) → k < rows_of s.metadata tables.Field → (FailsNone Field s k → ⊥) → FailsAt Field s k conditions.ModuleMember
-field s k lt not = record {
+at_field : (s : Subject) (k : ℕ) → k < rows_of s.metadata tables.Field → (FailsNone Field s k → ⊥) → FailsAt Field s k conditions.ModuleMember
+at_field s k lt not = record {
   fails = record {
     there = record { low = omega arith; high = omega (arith, lt) };
     listed = stays_in_list _ _ 1 (k + 1) (λ off. not (λ c h. off (field_fails s (k + 1) c h).listed));
   };
   first = field_first s (k + 1);
 }
+
+pub field : (s : Subject) (j : Judged) (k : ℕ) → j ≡ Field → k < asked j s → (FailsNone j s k → ⊥) → FailsAt j s k conditions.ModuleMember
+field s j k is = carried s j Field k conditions.ModuleMember is (at_field s k)
 
 -- ---- methods
 
@@ -67,8 +77,8 @@ method_first s n off conditions.ModuleMember lt h = absurd (omega (arith, lt))
 method_first s n off _ lt h = h
 
 -- a method that is plain IL fails as one that stands outside of types
-pub method : (s : Subject) (k : ℕ) → k < rows_of s.metadata tables.MethodDef → (IsForeign s.metadata (k + 1) → ⊥) → (FailsNone MethodDef s k → ⊥) → FailsAt MethodDef s k conditions.ModuleMember
-method s k lt plain not = record {
+at_method : (s : Subject) (k : ℕ) → k < rows_of s.metadata tables.MethodDef → (IsForeign s.metadata (k + 1) → ⊥) → (FailsNone MethodDef s k → ⊥) → FailsAt MethodDef s k conditions.ModuleMember
+at_method s k lt plain not = record {
   fails = record {
     there = record { low = omega arith; high = omega (arith, lt) };
     listed = stays_in_list _ _ 1 (k + 1) (λ off. not (λ c h. elim (method_fails s (k + 1) c h) [
@@ -78,6 +88,9 @@ method s k lt plain not = record {
   };
   first = method_first s (k + 1) plain;
 }
+
+pub method : (s : Subject) (j : Judged) (k : ℕ) → j ≡ MethodDef → (IsForeign s.metadata (k + 1) → ⊥) → k < asked j s → (FailsNone j s k → ⊥) → FailsAt j s k conditions.ModuleMember
+method s j k is plain = carried s j MethodDef k conditions.ModuleMember is (λ lt. at_method s k lt plain)
 
 -- ---- types by signature
 
@@ -89,8 +102,8 @@ spec_first : (s : Subject) (n : ℕ) (d : Condition) → place_of d < 9 → Fail
 spec_first s n conditions.TypeSpec lt h = absurd (omega (arith, lt))
 spec_first s n _ lt h = h
 
-pub spec : (s : Subject) (k : ℕ) → k < rows_of s.metadata tables.TypeSpec → (FailsNone TypeSpec s k → ⊥) → FailsAt TypeSpec s k conditions.TypeSpec
-spec s k lt not = record {
+at_spec : (s : Subject) (k : ℕ) → k < rows_of s.metadata tables.TypeSpec → (FailsNone TypeSpec s k → ⊥) → FailsAt TypeSpec s k conditions.TypeSpec
+at_spec s k lt not = record {
   fails = record {
     there = record { low = omega arith; high = omega (arith, lt) };
     reached = stays_true (slice_get s.reached ((k + 1) - 1)) (λ off. not (λ c h. off (spec_fails s (k + 1) c h).reached));
@@ -98,6 +111,9 @@ spec s k lt not = record {
   };
   first = spec_first s (k + 1);
 }
+
+pub spec : (s : Subject) (j : Judged) (k : ℕ) → j ≡ TypeSpec → k < asked j s → (FailsNone j s k → ⊥) → FailsAt j s k conditions.TypeSpec
+spec s j k is = carried s j TypeSpec k conditions.TypeSpec is (at_spec s k)
 
 -- ---- assemblies
 
@@ -114,8 +130,8 @@ first_assembly : (s : Subject) (n : ℕ) → IsModules s tables.Assembly n → n
 first_assembly s n (inl second) le there = absurd (omega (arith, second.0, le))
 first_assembly s n (inr none) le there = absurd (omega (arith, none.1, there))
 
-pub assembly : (s : Subject) (k : ℕ) → k < asked Assembly s → (FailsNone Assembly s k → ⊥) → FailsAt Assembly s k conditions.Modules
-assembly s k lt not = record {
+at_assembly : (s : Subject) (k : ℕ) → k < asked Assembly s → (FailsNone Assembly s k → ⊥) → FailsAt Assembly s k conditions.Modules
+at_assembly s k lt not = record {
   fails = elim (cases_lt k 1) [
     | inl first ↦ elim (cases_lt (rows_of s.metadata tables.Assembly) 1) [
       | inl none ↦ inr (omega (arith, first), omega (arith, none))
@@ -125,3 +141,6 @@ assembly s k lt not = record {
   ];
   first = assembly_first s (k + 1);
 }
+
+pub assembly : (s : Subject) (j : Judged) (k : ℕ) → j ≡ Assembly → k < asked j s → (FailsNone j s k → ⊥) → FailsAt j s k conditions.Modules
+assembly s j k is = carried s j Assembly k conditions.Modules is (at_assembly s k)

@@ -106,8 +106,8 @@ impl Judged {
             Judged::TypeSpec => Condition::TypeSpec,
             Judged::ImplMap => Condition::Native,
             Judged::FieldRva => Condition::FieldData,
-            Judged::ModuleRef | Judged::Assembly | Judged::File | Judged::ExportedType =>
-                Condition::Modules,
+            Judged::Assembly => Condition::Modules,
+            Judged::ModuleRef | Judged::File | Judged::ExportedType => Condition::Modules,
             Judged::GenericParam | Judged::MethodSpec | Judged::GenericParamConstraint =>
                 Condition::Generic,
         }

@@ -13,6 +13,7 @@ use crate::delegates::is_delegate;
 use cli_lists::{ListColumn, Lists, stretches_one_behind_the_other};
 use cli_metadata::{Metadata, Table};
 use cli_tables::{MethodDefRow, TypeSpecRow};
+use dc_base::one_number_begins;
 use std::marker::Model;
 
 // Metadata with its list columns, and of each row of TypeSpec, from row 1 on, whether it is reached.
@@ -149,6 +150,7 @@ fn is_array(metadata: &Metadata, n: u32) -> bool
     ensures yes { OnTrue result (IsArray metadata.now n) }
     ensures no { OnFalse result (IsArray metadata.now n → ⊥) }
 {
+    one_number_begins();
     match metadata.blob(metadata.row::<TypeSpecRow>(n).signature) {
         Ok([first, ..]) => *first == SZARRAY,
         Ok(_) => false,
