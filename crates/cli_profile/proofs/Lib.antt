@@ -1,5 +1,5 @@
 -- What the crate's proofs cite.
-pub mod Tests
+pub mod Answered
 pub mod Stable
 pub mod Judging
 pub mod Order

@@ -1,7 +1,7 @@
 use Rattle.std.proofs.Common.{◌<◌, ◌≤◌, leb-true, arith}
 use Rattle.std.proofs.lemmas.Bool.{ltb-true, ltb-false, leb-false}
 use Rattle.cli_lists.specs.Starts.{IsInList}
-use Rattle.cli_profile.proofs.Tests.{on_true, on_false}
+use Rattle.cli_profile.proofs.Answered.{on_true, on_false}
 use Rattle.cli_profile.proofs.rows.in_first_list.Goals as goal
 
 pub returns-then-list-n-clause-yes : goal.returns-then-list-n-clause-yes

@@ -4,7 +4,7 @@ use Rattle.cli_metadata.specs.Metadata.{IsItem}
 use Rattle.cli_tables.specs.declared.types.TypeSpecRow.{TypeSpecRow}
 use Rattle.cli_profile.specs.Rows.{IsArray}
 use Rattle.cli_profile.proofs.Items.{one_item, first_byte}
-use Rattle.cli_profile.proofs.Tests.{on_false}
+use Rattle.cli_profile.proofs.Answered.{on_false}
 use Rattle.cli_profile.proofs.rows.is_array.Goals as goal
 
 pub returns-in-Ok-len1-up-clause-no : goal.returns-in-Ok-len1-up-clause-no

@@ -8,7 +8,7 @@ use Rattle.cli_profile.specs.declared.judged.Judged.TheVariants.{Field, MethodDe
 use Rattle.cli_profile.specs.Methods.{IsForeign}
 use Rattle.cli_profile.specs.Rows.{IsModuleMember, IsOtherSpec}
 use Rattle.cli_profile.specs.Judged.{asked, FailsNone}
-use Rattle.cli_profile.proofs.Tests.{on_false, on_not}
+use Rattle.cli_profile.proofs.Answered.{on_false, on_not}
 use Rattle.cli_profile.proofs.Judging.{barred, unsifted, no_assembly, other_assembly}
 use Rattle.cli_profile.proofs.judged.JudgedAskedRows.holds.Goals as goal
 

@@ -1,6 +1,6 @@
 use Rattle.cli_profile.specs.Methods.{IsDelegate, IsOfDelegate}
 use Rattle.cli_profile.proofs.Items.{not_of_delegate}
-use Rattle.cli_profile.proofs.Tests.{on_false, told_false}
+use Rattle.cli_profile.proofs.Answered.{on_false, told_false}
 use Rattle.cli_profile.proofs.rows.Rows.is_of_delegate.Goals as goal
 
 pub returns-in-Some-clause-no : goal.returns-in-Some-clause-no
