@@ -1,5 +1,5 @@
 -- Each failing row is one that is asked, and a row of a table that no assembly of the profile has fails.
-use Rattle.std.proofs.Common.{◌≡◌, ℕ, ◌+◌, ◌-◌, ◌^◌, ◌<◌, ◌≤◌, refl, inl, inr, arith}
+use Rattle.std.proofs.Common.{◌≡◌, ℕ, ◌+◌, ◌^◌, ◌<◌, ◌≤◌, refl, inl, inr, arith}
 use Rattle.std.proofs.lemmas.Bool.{cases_lt}
 use Rattle.cli_conditions.specs.declared.condition.Condition.{Condition}
 use Rattle.cli_conditions.specs.declared.condition.Condition.TheVariants as conditions

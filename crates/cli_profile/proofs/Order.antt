@@ -1,20 +1,17 @@
 -- What the tables in their order say of the first failure.
-use Rattle.std.proofs.Common.{◌≡◌, ◌⊎◌, ◌∙◌, ℕ, ◌+◌, ◌-◌, ◌*◌, ◌^◌, ◌<◌, ◌≤◌, List, [], ◌∷◌, Ok, Err, refl, sym, ap, subst, inl, inr, arith}
+use Rattle.std.proofs.Common.{◌≡◌, ◌⊎◌, ◌∙◌, ℕ, ◌+◌, ◌-◌, ◌<◌, ◌≤◌, List, [], ◌∷◌, Ok, Err, refl, sym, ap, subst, inl, inr, arith}
 use Rattle.std.proofs.lemmas.Bool.{cases_lt}
-use Rattle.dc_base.specs.declared.names.Token.{Token}
 use Rattle.dc_causes.specs.Causes.{InOrder}
 use Rattle.dc_causes.specs.Rows.{OfRow, OfRows}
 use Rattle.dc_causes.proofs.Chain.{then_read, then_fault}
 use Rattle.dc_causes.proofs.Single.{not_both}
 use Rattle.cli_conditions.specs.declared.condition.Condition.{Condition}
-use Rattle.cli_conditions.specs.declared.unmet.Unmet.{Unmet}
-use Rattle.cli_conditions.specs.Conditions.{number_of as place_of}
 use Rattle.cli_metadata.specs.declared.tables.Table.{Table}
 use Rattle.cli_metadata.specs.Numbers.{number_of}
 use Rattle.cli_profile.specs.declared.judged.Judged.{Judged}
 use Rattle.cli_profile.specs.declared.judged.Judged.TheVariants.{Field, MethodDef, FieldMarshal, DeclSecurity, ClassLayout, FieldLayout, EventMap, Event, ModuleRef, TypeSpec, ImplMap, FieldRva, Assembly, File, ExportedType, GenericParam, MethodSpec, GenericParamConstraint}
 use Rattle.cli_profile.specs.Rows.{Subject}
-use Rattle.cli_profile.specs.Profile.{Fails, Failure, IsFailure, ComesBefore, IsFirst, FailsFirst, RowsInProfile, unmet_of}
+use Rattle.cli_profile.specs.Profile.{Fails, Failure, IsFailure, ComesBefore, RowsInProfile, unmet_of}
 use Rattle.cli_profile.specs.Judged.{table_of, asked, FailsNone, FailsAt}
 use Rattle.cli_profile.proofs.Judging.{IsAsked, asks}
 

@@ -8,11 +8,10 @@ use Rattle.cli_conditions.specs.Conditions.{number_of as place_of}
 use Rattle.cli_metadata.specs.declared.tables.Table.TheVariants as tables
 use Rattle.cli_metadata.specs.Metadata.{rows_of}
 use Rattle.cli_lists.specs.Starts.{IsInList}
-use Rattle.cli_lists.specs.Lists.{lists_of}
 use Rattle.cli_profile.specs.declared.judged.Judged.{Judged}
 use Rattle.cli_profile.specs.declared.judged.Judged.TheVariants.{Field, MethodDef, TypeSpec, Assembly}
-use Rattle.cli_profile.specs.Methods.{IsRow, IsForeign}
-use Rattle.cli_profile.specs.Rows.{Subject, IsModules, IsModuleMember, IsOfModule, IsReached, IsOtherSpec}
+use Rattle.cli_profile.specs.Methods.{IsForeign}
+use Rattle.cli_profile.specs.Rows.{Subject, IsModules, IsModuleMember, IsOtherSpec}
 use Rattle.cli_profile.specs.Profile.{Fails}
 use Rattle.cli_profile.specs.Judged.{asked, FailsNone, FailsAt}
 

@@ -1,6 +1,5 @@
 -- The profile as far as rows alone decide it: which failure comes first.
 use Rattle.std.specs.Prelude.{◌≡◌, ◌⊎◌, ℕ, ◌+◌, ◌*◌, ◌^◌, ◌<◌, Ok, Err}
-use Rattle.dc_base.specs.declared.names.Token.{Token}
 use Rattle.dc_causes.specs.Step.{Step, Told}
 use Rattle.cli_conditions.specs.declared.condition.Condition.{Condition}
 use Rattle.cli_conditions.specs.declared.condition.Condition.TheVariants as conditions

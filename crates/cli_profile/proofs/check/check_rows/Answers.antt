@@ -1,4 +1,3 @@
-use Rattle.std.proofs.Common.{◌≡◌, ◌+◌, rules, arith}
 use Rattle.cli_profile.specs.Rows.{Subject}
 use Rattle.cli_profile.proofs.Order.{found, met, unmet, all}
 use Rattle.cli_profile.proofs.Judging.{fits}

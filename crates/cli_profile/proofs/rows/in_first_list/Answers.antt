@@ -1,4 +1,4 @@
-use Rattle.std.proofs.Common.{◌<◌, ◌≤◌, leb-true, arith}
+use Rattle.std.proofs.Common.{arith}
 use Rattle.std.proofs.lemmas.Bool.{ltb-true, ltb-false, leb-false}
 use Rattle.cli_lists.specs.Starts.{IsInList}
 use Rattle.cli_profile.proofs.Answered.{on_true, on_false}

@@ -1,4 +1,4 @@
-use Rattle.std.proofs.Common.{◌≡◌, ◌∙◌, ℕ, get_or, sym, ap, subst}
+use Rattle.std.proofs.Common.{◌∙◌, get_or, sym, ap, subst}
 use Rattle.std.proofs.lemmas.Bool.{eqb-false}
 use Rattle.cli_metadata.specs.Metadata.{IsItem}
 use Rattle.cli_tables.specs.declared.types.TypeSpecRow.{TypeSpecRow}

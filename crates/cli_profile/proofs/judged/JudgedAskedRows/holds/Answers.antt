@@ -1,10 +1,8 @@
-use Rattle.std.proofs.Common.{◌≡◌, ◌+◌, ◌<◌, ◌≤◌, sym, ap, subst, inl, inr, arith}
-use Rattle.std.proofs.lemmas.Bool.{ltb-false, eqb-false}
+use Rattle.std.proofs.Common.{◌+◌, ◌<◌, subst, arith}
+use Rattle.std.proofs.lemmas.Bool.{ltb-false}
 use Rattle.cli_conditions.specs.declared.condition.Condition.TheVariants as conditions
 use Rattle.cli_metadata.specs.declared.tables.Table.TheVariants as tables
-use Rattle.cli_metadata.specs.Metadata.{rows_of}
 use Rattle.cli_profile.specs.declared.judged.Judged.{Judged}
-use Rattle.cli_profile.specs.declared.judged.Judged.TheVariants.{Field, MethodDef, TypeSpec, Assembly}
 use Rattle.cli_profile.specs.Methods.{IsForeign}
 use Rattle.cli_profile.specs.Rows.{IsModuleMember, IsOtherSpec}
 use Rattle.cli_profile.specs.Judged.{asked, FailsNone}
