@@ -1,0 +1,2 @@
+-- What a reader must believe: what a token means.
+pub mod Meaning
