@@ -11,4 +11,5 @@ mod scope;
 mod walk;
 
 pub use declared::{Declared, What, Within};
+pub use scope::{dotted, joined};
 pub use walk::declared_types;
