@@ -11,7 +11,7 @@ use Rattle.std.proofs.lemmas.Slice.Eq.{bytes_eq-Decides}
 use Rattle.std.proofs.lemmas.Bool.Decides.{nat_tests}
 use Rattle.std.specs.Bool.{Decides}
 use Rattle.std.specs.Str.{bytes_eq}
-use Rattle.std.proofs.lemmas.Option.{slice_get_within}
+use Rattle.std.proofs.lemmas.Option.{slice_get_within, get_or_from_slice_get}
 use Rattle.std.specs.Cmp.{IsTotalOrder}
 use Rattle.dc_base.specs.declared.names.TypeId.{TypeId}
 use Rattle.std.specs.Cmp.Lexicographic.{slice_cmp}
@@ -22,7 +22,7 @@ use Rattle.std.specs.List.Sorted.{IsPartitionPoint, IsNonDecreasingBy, IsStrictl
 use Rattle.std.specs.Ordering.{nat_cmp, is_lt, is_le, is_eq, ordering_then, ordering_index}
 use Rattle.class_rows.specs.declared.row.MemberRow.{MemberRow}
 use Rattle.class_rows.specs.Members.{IsOf, known_as}
-use Rattle.class_index.specs.Index.{IsKnownSo}
+use Rattle.class_index.specs.Index.{IsKnownSo, AreApart}
 use Rattle.class_index.specs.Order.{key_at, key_of, key_cmp, order_cmp, IsIndex, key_place, owner_place, IsPlaceOf}
 
 map_same : (xs : List ℕ) → map (λ (x : ℕ). x) xs ≡ xs
@@ -234,6 +234,28 @@ module _ (members : List MemberRow) (order : List ℕ) (index : IsIndex members 
       let short : has.0 - start < end - start = omega arith in
       let there : start + (has.0 - start) ≡ has.0 = omega arith in
       (has.0 - start, omega (arith, stretch_long, short), stretch_at (has.0 - start) m short ∙ ap (λ (k : ℕ). get_or order k m) there ∙ has.2)
+
+-- a stretch of the order has no number twice
+stretch_once : (members : List MemberRow) (order : List ℕ) (index : IsIndex members order) (start end : ℕ) → end ≤ length order → (j k m : ℕ) → j < k → k < end - start → get_or order (start + j) m ≡ m → get_or order (start + k) m ≡ m → ⊥
+stretch_once members order index start end le j k m lt within p q =
+    let apart = apart_from_distinct eqb order (start + j) (start + k) m (order_apart members order index) (omega (arith, lt)) (omega (arith, within, le)) in
+    eqb-false (get_or order (start + j) m) (get_or order (start + k) m) apart (p ∙ sym q)
+
+pub owned_apart : (members : List MemberRow) (order : List ℕ) (t : ℕ) (index : IsIndex members order) (start end : ℕ) → IsPlaceOf (owner_place members t) 0 order start → IsPlaceOf (owner_place members t) 1 order end → AreApart (take (end - start) (drop start order))
+owned_apart members order t index start end from_ to_ j k m p q =
+    let own = take (end - start) (drop start order) in
+    let long : length own ≡ end - start = stretch_long members order index (owner_place members t) start end from_ to_ in
+    let j_in : j < end - start = omega (arith, long, slice_get_within own j m p) in
+    let k_in : k < end - start = omega (arith, long, slice_get_within own k m q) in
+    let a : get_or order (start + j) m ≡ m = sym (stretch_at members order index (owner_place members t) start end from_ to_ j m j_in) ∙ get_or_from_slice_get own j m m p in
+    let b : get_or order (start + k) m ≡ m = sym (stretch_at members order index (owner_place members t) start end from_ to_ k m k_in) ∙ get_or_from_slice_get own k m m q in
+    elim (cases_lt j k) [
+      | inl less ↦ absurd (stretch_once members order index start end to_.within j k m less k_in a b)
+      | inr ge ↦ elim (cases_lt k j) [
+        | inl more ↦ absurd (stretch_once members order index start end to_.within k j m more j_in b a)
+        | inr le ↦ omega (arith, ge, le)
+      ]
+    ]
 
 pub owned_stretch : (members : List MemberRow) (order : List ℕ) (t : ℕ) (index : IsIndex members order) (start end : ℕ) → IsPlaceOf (owner_place members t) 0 order start → IsPlaceOf (owner_place members t) 1 order end → (m : ℕ) → Contains (take (end - start) (drop start order)) m ↔ IsOf members t m
 owned_stretch members order t index start end from_ to_ m = (

@@ -4,7 +4,7 @@ ghost use Rattle.std.specs.Prelude.{◌≡◌, ◌↔◌, ◌<◌, ◌≤◌, �
 ghost use Rattle.std.specs.List.{range_with_len};
 ghost use Rattle.std.specs.List.Sorted.{IsStrictlyIncreasing};
 ghost use Rattle.class_rows.specs.Members.{IsOf};
-ghost use Rattle.class_index.specs.Index.{IsKnownSo};
+ghost use Rattle.class_index.specs.Index.{IsKnownSo, AreApart};
 ghost use Rattle.class_index.specs.Order.{IsIndex, key_of, key_cmp, order_cmp, owner_place, key_place, IsPlaceOf};
 
 use crate::known_name;
@@ -44,10 +44,11 @@ impl MemberIndex {
         &order[start..end]
     }
 
-    /// The members of a type, by name. The index is that of these members.
+    /// The members of a type, by name, each once. The index is that of these members.
     pub fn of_owner(&self, members: &[MemberRow], owner: TypeId) -> &[u32]
         requires { IsIndex members.now self.now.order }
-        ensures { (m : ℕ) → Contains result.now m ↔ IsOf members.now owner.0 m }
+        ensures apart { AreApart result.now }
+        ensures exact { (m : ℕ) → Contains result.now m ↔ IsOf members.now owner.0 m }
     {
         let order = self.order.items();
         let start = before_owner(order, members, owner);

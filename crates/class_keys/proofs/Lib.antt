@@ -5,3 +5,5 @@ pub mod Found
 pub mod OfTwo
 -- key::least_shared_key
 pub mod Behind
+-- firsts::first_indices
+pub mod Noted

@@ -1,3 +1,4 @@
--- What a reader must believe: the least number of which a fact holds, and keys that are shared.
+-- What a reader must believe: the least number of which a fact holds, keys that are shared, and where a key stands first.
 pub mod Least
 pub mod Shared
+pub mod Firsts

@@ -5,8 +5,10 @@
 //! ```
 #![tactic(auto)]
 
+mod firsts;
 mod key;
 mod least;
 
+pub use firsts::first_indices;
 pub use key::least_shared_key;
 pub use least::lesser;

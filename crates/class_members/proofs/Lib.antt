@@ -8,8 +8,6 @@ pub mod Inner
 pub mod Chain
 -- fieldless::fieldless_types
 pub mod Roots
--- firsts::first_indices
-pub mod Noted
 -- odd::first_named, odd::least_of_firsts
 pub mod Odds
 -- sign::least_twin

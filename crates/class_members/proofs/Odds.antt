@@ -13,7 +13,7 @@ use Rattle.class_rows.specs.declared.row.MemberRow.{MemberRow}
 use Rattle.class_rows.specs.Names.{IsReference}
 use Rattle.class_rows.specs.Members.{MayShareName, known_as}
 use Rattle.class_members.specs.declared.nested.NameIn.{NameIn}
-use Rattle.class_members.specs.Firsts.{AreFirsts}
+use Rattle.class_keys.specs.Firsts.{AreFirsts}
 use Rattle.class_members.specs.Groups.{GoesWith, IsClashOf, IsFirstClash, AreFirstNamed, IsOdd}
 use Rattle.class_members.specs.Names.{IsNameIn, AreNamesIn}
 

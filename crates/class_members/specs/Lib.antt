@@ -6,6 +6,5 @@ pub mod Groups
 pub mod Nested
 pub mod Fieldless
 -- Inner facts: what the code goes by.
-pub mod Firsts
 pub mod Signs
 pub mod Names

@@ -9,7 +9,6 @@
 #![tactic(auto)]
 
 mod fieldless;
-mod firsts;
 mod nested;
 mod odd;
 mod pair;

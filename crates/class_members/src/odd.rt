@@ -5,12 +5,11 @@ ghost use Rattle.class_keys.specs.Least.{IsLeastOf};
 ghost use Rattle.class_members.specs.Groups.{AreFirstNamed, IsFirstClash, IsOdd};
 ghost use Rattle.class_members.specs.Names.{IsNameIn, AreNamesIn};
 
-use crate::firsts::first_indices;
 use crate::nested::NameIn;
 use crate::pair::may_share_name;
 use crate::reference::is_reference;
 use class_index::known_name;
-use class_keys::lesser;
+use class_keys::{first_indices, lesser};
 use class_rows::{MemberRow, TypeRow};
 use dc_base::NoMemory;
 use std::alloc::Global;

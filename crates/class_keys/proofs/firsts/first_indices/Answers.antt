@@ -1,6 +1,6 @@
 use Rattle.class_keys.proofs.Items.{read_item}
-use Rattle.class_members.proofs.Noted.{noted_more}
-use Rattle.class_members.proofs.firsts.first_indices.Goals as goal
+use Rattle.class_keys.proofs.Noted.{noted_more}
+use Rattle.class_keys.proofs.firsts.first_indices.Goals as goal
 
 pub loop-index-preserved : goal.loop-index-preserved
 loop-index-preserved g c =

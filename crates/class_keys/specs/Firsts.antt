@@ -1,4 +1,4 @@
--- Inner facts: where each key of a list stands first.
+-- Where each key of a list stands first.
 use Rattle.std.specs.Prelude.{◌≡◌, ℕ, Bool, true, List, Some, length, slice_get}
 use Rattle.dc_causes.specs.First.{IsLeast}
 

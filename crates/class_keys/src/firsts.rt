@@ -1,7 +1,7 @@
 // Where each key stands first.
 
 ghost use Rattle.std.specs.Prelude.{◌≡◌, ◌++◌, ◌∷◌, [], if◌then◌else◌, IfOk};
-ghost use Rattle.class_members.specs.Firsts.{AreFirsts};
+ghost use Rattle.class_keys.specs.Firsts.{AreFirsts};
 
 use dc_base::NoMemory;
 use indexmap::IndexSet;
@@ -32,4 +32,17 @@ fn with_place(places: Vec<usize>, is_new: bool, index: usize) -> Result<Vec<usiz
         places.push(index)?;
     }
     Ok(places)
+}
+
+#[cfg(test)]
+mod tests {
+    use super::*;
+    use std::test::Fail;
+
+    #[test]
+    fn finds_where_each_key_stands_first(rt: HostRuntime) -> Result<(), Fail> {
+        let firsts = first_indices(rt.alloc(), &[5, 6, 5, 7, 6])?;
+        assert_eq!(rt; firsts.as_slice(), [0, 1, 0, 3, 1].as_slice());
+        Ok(())
+    }
 }

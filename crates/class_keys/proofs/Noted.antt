@@ -12,7 +12,7 @@ use Rattle.indexmap.specs.IndexSet.{insert_key}
 use Rattle.dc_causes.specs.First.{IsLeast}
 use Rattle.class_keys.proofs.Items.{one_item, last_item, pushed_item, read_item}
 use Rattle.class_keys.proofs.Found.{any_at}
-use Rattle.class_members.specs.Firsts.{IsAlsoAt, AreFirsts}
+use Rattle.class_keys.specs.Firsts.{IsAlsoAt, AreFirsts}
 
 -- this index is the first of a key
 pub record IsFirstOf {K : Type 0} (eq : K → K → Bool) (keys : List K) (f : ℕ) (key : K) : Type 0 where
