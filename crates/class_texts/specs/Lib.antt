@@ -2,3 +2,5 @@
 pub mod MemberRows
 pub mod Pairs
 pub mod Text
+-- Inner facts: members by what an explicit implementation names.
+pub mod Keys

@@ -10,7 +10,7 @@ use Rattle.class_written.specs.Forms.{known}
 use Rattle.class_written.specs.TypeRows.{type_row}
 use Rattle.class_texts.specs.declared.row.Row.{Row}
 use Rattle.class_texts.specs.MemberRows.{rows_from}
-use Rattle.class_texts.specs.Pairs.{asked_from, ArePairs}
+use Rattle.class_texts.specs.Pairs.{ArePairs}
 
 abbrev pub known_types : List Placed → List Known
 known_types types = map known types
@@ -25,4 +25,4 @@ members_of types = map (λ (r : Row). r.row) (rows_of types)
 pub record AreRowsOf (unit : WholeText) (rows : List TypeRow) (members : List MemberRow) (explicit : List (MemberId × MemberId)) : Type 0 where
   pub types : rows ≡ map (type_row (known_types (types_in unit))) (types_in unit)
   pub those : members ≡ members_of (types_in unit)
-  pub pairs : ArePairs (known_types (types_in unit)) (members_of (types_in unit)) (asked_from 0 (rows_of (types_in unit))) explicit
+  pub pairs : ArePairs (known_types (types_in unit)) (rows_of (types_in unit)) explicit

@@ -9,8 +9,11 @@
 mod constants;
 mod content;
 mod members;
+mod pairs;
 mod parts;
 mod properties;
 mod row;
+mod text;
 
 pub use row::{Home, Row};
+pub use text::{Rows, rows_of};
