@@ -1,5 +1,5 @@
 -- Members by what an explicit implementation names.
-use Rattle.std.proofs.Common.{◌≡◌, ◌⊎◌, ◌∙◌, ℕ, zero, suc, ◌+◌, ◌<◌, ◌≤◌, Bool, true, cond, Option, Some, None, List, [], ◌∷◌, ◌++◌, map, take, get_or, length, refl, sym, ap, subst, inl, inr, arith}
+use Rattle.std.proofs.Common.{◌≡◌, ◌∙◌, ℕ, zero, suc, ◌+◌, ◌<◌, ◌≤◌, Bool, true, cond, Option, Some, None, List, [], ◌∷◌, ◌++◌, map, take, get_or, length, refl, sym, ap, subst, inl, inr, arith}
 use Rattle.std.specs.List.{slice_get}
 use Rattle.std.proofs.lemmas.Option.{slice_get_within}
 use Rattle.std.specs.Prelude.{All}
@@ -15,7 +15,7 @@ use Rattle.class_rows.specs.declared.row.MemberRow.{MemberRow}
 use Rattle.class_written.specs.Named.{Known, named, nothing}
 use Rattle.class_texts.specs.declared.row.Row.{Row}
 use Rattle.class_texts.specs.declared.pairs.Key.{Key}
-use Rattle.class_texts.specs.Pairs.{number_by, implementing_from, IsNamedBy, IsTarget, IsPair}
+use Rattle.class_texts.specs.Pairs.{number_by, implementing_from, IsNamedBy, IsPair}
 use Rattle.class_texts.specs.Keys.{IsKeyOf, IsWanted, IsWantedBy, AreOneKey, AreRowKeys, AreKeys, AllImplement, target_of}
 
 -- a key more of a row

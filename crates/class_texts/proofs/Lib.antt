@@ -3,3 +3,5 @@
 pub mod KeyEqual
 -- pairs::keys, pairs::pairs_of, pairs::row_keys
 pub mod Keyed
+-- text::rows_of
+pub mod Whole

@@ -30,8 +30,6 @@ use Rattle.cs_tree.specs.declared.members.Accessor.{Accessor}
 use Rattle.cs_tree.specs.declared.members.Member.{Member}
 use Rattle.cs_tree.specs.declared.members.Member.TheVariants as member
 use Rattle.cs_tree.specs.declared.declarations.Enumerator.{Enumerator}
-use Rattle.cs_tree.specs.declared.declarations.Kind.{Kind}
-use Rattle.cs_tree.specs.declared.declarations.Kind.TheVariants as tree_kind
 use Rattle.cs_declared.specs.declared.declared.Within.{Within}
 use Rattle.cs_declared.specs.declared.declared.Within.TheVariants as within
 use Rattle.cs_declared.specs.Names.{joined}

@@ -34,11 +34,7 @@ fn spelled(form: &Form) -> Option<(bool, &TreeLiteral)>
     }
 }
 
-fn literal_value(
-    alloc: Global,
-    negative: bool,
-    literal: &TreeLiteral,
-) -> Result<Literal, NoMemory>
+fn literal_value(alloc: Global, negative: bool, literal: &TreeLiteral) -> Result<Literal, NoMemory>
     ensures { IfOk result (λ value. value ≡ literal_value negative literal.now) }
 {
     match literal {

@@ -53,7 +53,15 @@ pub fn member_rows(
                 name,
                 params: params.items(),
             };
-            add_method(alloc, types, home, *mods, explicit.as_ref(), signature, rows)
+            add_method(
+                alloc,
+                types,
+                home,
+                *mods,
+                explicit.as_ref(),
+                signature,
+                rows,
+            )
         }
         Member::Property {
             mods,
@@ -95,7 +103,10 @@ pub fn member_rows(
             rows,
         ),
         Member::Operator {
-            ty, name, params, ..
+            ty,
+            name,
+            params,
+            ..
         } => add(
             rows,
             operator_row(alloc, types, home, ty, name, params.items())?,

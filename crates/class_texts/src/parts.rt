@@ -3,10 +3,9 @@
 ghost use Rattle.std.specs.Prelude.{◌≡◌, IfOk, ◌++◌, [], ◌∷◌};
 ghost use Rattle.class_texts.specs.MemberRows.{way_of, is_lent, param_of, params_of, by_value, virt_by, virt_of, access_of, plain};
 
-use class_written::Types;
 use crate::row::{Home, Row};
-use class_written::{access_or, access_within};
 use class_rows::{Access, MemberRow, Param, Virt, Way};
+use class_written::{Types, access_or, access_within};
 use cs_declared::Within;
 use cs_tree::{Access as Word, Mods, Param as TreeParam, Way as TreeWay};
 use dc_base::{NoMemory, Seq, Text, Ty};

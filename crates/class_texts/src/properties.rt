@@ -27,8 +27,28 @@ pub fn property_rows(
 {
     let (getter, setter) = accessors;
     let ty = types.ty(alloc, ty, false)?;
-    add_getter(alloc, home, mods, MemberKind::Getter, no_params(alloc), ty, name, getter, rows)?;
-    add_setter(alloc, home, mods, MemberKind::Setter, no_params(alloc), ty, name, setter, rows)
+    add_getter(
+        alloc,
+        home,
+        mods,
+        MemberKind::Getter,
+        no_params(alloc),
+        ty,
+        name,
+        getter,
+        rows,
+    )?;
+    add_setter(
+        alloc,
+        home,
+        mods,
+        MemberKind::Setter,
+        no_params(alloc),
+        ty,
+        name,
+        setter,
+        rows,
+    )
 }
 
 /// The rows of an indexer, its getter first; the types are its own and that of its parameter.
@@ -48,9 +68,29 @@ pub fn indexer_rows(
     let ty = types.ty(alloc, forms.0, false)?;
     let index = types.ty(alloc, forms.1, false)?;
     let taken = one_param(alloc, index)?;
-    add_getter(alloc, home, mods, MemberKind::Indexer, taken, ty, name, getter, rows)?;
+    add_getter(
+        alloc,
+        home,
+        mods,
+        MemberKind::Indexer,
+        taken,
+        ty,
+        name,
+        getter,
+        rows,
+    )?;
     let taken = one_param(alloc, index)?;
-    add_setter(alloc, home, mods, MemberKind::Indexer, taken, ty, name, setter, rows)
+    add_setter(
+        alloc,
+        home,
+        mods,
+        MemberKind::Indexer,
+        taken,
+        ty,
+        name,
+        setter,
+        rows,
+    )
 }
 
 fn add_getter(

@@ -1,5 +1,5 @@
 -- The row of a type that a reference text declares (ECMA-334, 15.2, 16.2, 18.2, 19.2, 20.2).
-use Rattle.std.specs.Prelude.{ℕ, zero, suc, List, [], ◌∷◌, Option, None, Some, Bool, true, false, cond, codes, map, slice_get, ◌||◌}
+use Rattle.std.specs.Prelude.{ℕ, zero, suc, List, [], ◌∷◌, Option, None, Some, Bool, true, false, cond, codes, map, slice_get}
 use Rattle.std.specs.Str.{bytes_eq}
 use Rattle.std.specs.Option.{option_map}
 use Rattle.dc_base.specs.declared.ty.Prim_.{Prim_}
@@ -20,7 +20,7 @@ use Rattle.cs_declared.specs.declared.declared.Within.{Within}
 use Rattle.cs_declared.specs.declared.declared.Within.TheVariants as within
 use Rattle.cs_declared.specs.Types.{Placed, Content, Body, Enum, Delegate}
 use Rattle.class_written.specs.Named.{Known, number_of, nothing}
-use Rattle.class_written.specs.Forms.{number_written, underlying, is_static_class, placed_kind, type_id}
+use Rattle.class_written.specs.Forms.{number_written, underlying, placed_kind, type_id}
 
 -- ---- access (15.3.6, 14.6 on defaults)
 

@@ -25,7 +25,8 @@ fn body_kind(mods: Mods, kind: TreeKind) -> Kind
     ensures { result ≡ body_kind mods kind }
 {
     match kind {
-        TreeKind::Class if mods.is_static || (mods.is_abstract && mods.is_sealed) => Kind::StaticClass,
+        TreeKind::Class if mods.is_static || (mods.is_abstract && mods.is_sealed) =>
+            Kind::StaticClass,
         TreeKind::Class => Kind::Class,
         TreeKind::Interface => Kind::Interface,
         TreeKind::Struct => Kind::Opaque,

@@ -113,11 +113,7 @@ fn above_of(
     }
 }
 
-fn supers(
-    alloc: Global,
-    types: &Types<'_>,
-    forms: &[TypeForm],
-) -> Result<Vec<TypeId>, NoMemory>
+fn supers(alloc: Global, types: &Types<'_>, forms: &[TypeForm]) -> Result<Vec<TypeId>, NoMemory>
     ensures { IfOk result (λ named. named.items ≡ map (super types.now) forms.now) }
 {
     let mut named = Vec::new(alloc);

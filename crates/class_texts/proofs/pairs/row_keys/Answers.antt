@@ -1,4 +1,4 @@
-use Rattle.std.proofs.Common.{ℕ, ◌+◌, List, sym, subst}
+use Rattle.std.proofs.Common.{◌+◌, List, sym, subst}
 use Rattle.class_keys.proofs.Items.{read_item}
 use Rattle.class_texts.specs.declared.pairs.Key.{Key}
 use Rattle.class_texts.specs.Keys.{AreRowKeys}

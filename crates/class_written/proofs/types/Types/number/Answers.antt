@@ -1,4 +1,4 @@
-use Rattle.std.proofs.Common.{◌≡◌, ◌∙◌, ℕ, List, Option, Some, None, ap}
+use Rattle.std.proofs.Common.{◌≡◌, ◌∙◌, ℕ, List, ap}
 use Rattle.class_written.specs.Named.{Known, number_of}
 use Rattle.class_written.specs.Numbered.{at_name}
 use Rattle.class_written.proofs.Numbers.{number_told}
