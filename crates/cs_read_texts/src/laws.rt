@@ -1,0 +1,8 @@
+// What follows of the grammar for whole texts.
+
+ghost use Rattle.cs_read_texts.specs.Texts.{HasOneText};
+
+/// A text has one answer and no other: a tree, or one fault at one place.
+pub fn one_text()
+    ensures { HasOneText }
+{}

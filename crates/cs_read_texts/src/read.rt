@@ -1,0 +1,93 @@
+// A text as its tree, or its first fault.
+
+ghost use Rattle.std.specs.Prelude.{◌≡◌, ◌≤◌, ◌<◌, ◌+◌, ◌^◌, length};
+ghost use Rattle.std.specs.Str.{chars};
+ghost use Rattle.cs_read_calls.specs.Asked.{Asked};
+ghost use Rattle.cs_read_texts.specs.Texts.{within, beyond, IsRead};
+ghost use Rattle.cs_read_texts.specs.Told.{at_end as at_end_of, at_token as at_token_of, fault_of, whole_of, told as told_of};
+
+use crate::ReadFault;
+use cs_grammar::{Cursor, Fault};
+use cs_lex::{Tokens, cut};
+use cs_read_calls::{Ask, Got, Level};
+use cs_read_units::unit;
+use cs_token::Token;
+use cs_tree::Unit;
+use dc_base::Or;
+use std::alloc::Global;
+
+fn at_token(fault: Fault, token: &Token) -> ReadFault
+    ensures { result ≡ at_token_of fault token.now }
+{
+    match fault {
+        Fault::Unexpected => ReadFault::Parse(token.line(), token.column()),
+        Fault::TooDeep => ReadFault::Deep(token.line(), token.column()),
+    }
+}
+
+/// The fault behind the tokens of a text that goes on there.
+fn at_end(cut: &Tokens) -> ReadFault
+    ensures { result ≡ at_end_of cut.now }
+{
+    if cut.whole {
+        ReadFault::Parse(cut.line, cut.column)
+    } else {
+        ReadFault::Lex(cut.line, cut.column)
+    }
+}
+
+fn fault_at(cut: &Tokens, left: &Cursor<Token>, fault: Fault) -> ReadFault
+    ensures { result ≡ fault_of cut.now left.now fault }
+{
+    match left.peek() {
+        Some(next) => at_token(fault, next),
+        None => at_end(cut),
+    }
+}
+
+fn whole(cut: &Tokens, left: &Cursor<Token>, unit: Unit) -> Result<Unit, Or<ReadFault>>
+    ensures { result ≡ whole_of cut.now left.now unit }
+{
+    match left.peek() {
+        Some(next) => Err(Or::Fault(at_token(Fault::Unexpected, next))),
+        None if cut.whole => Ok(unit),
+        None => Err(Or::Fault(ReadFault::Lex(cut.line, cut.column))),
+    }
+}
+
+/// What was read of a whole text, where these tokens are left.
+fn told(
+    cut: &Tokens,
+    left: &Cursor<Token>,
+    read: Result<Unit, Or<Fault>>,
+) -> Result<Unit, Or<ReadFault>>
+    ensures { result ≡ told_of cut.now left.now read }
+{
+    match read {
+        Ok(unit) => whole(cut, left, unit),
+        Err(Or::Fault(fault)) => Err(Or::Fault(fault_at(cut, left, fault))),
+        Err(Or::NoMemory) => Err(Or::NoMemory),
+    }
+}
+
+/// The tree of a text within the depths of this level, whose types have at most so many types open in one another. The level is one
+/// below a whole expression.
+pub fn unit_of_text<F: Fn(Global, &mut Cursor<Token>, Ask) -> Result<Got, Or<Fault>>>(
+    level: &Level<F>,
+    alloc: Global,
+    source: &str,
+    nesting: u16,
+) -> Result<Unit, Or<ReadFault>>
+    requires callable { F.IsAlwaysCallable level.now.read }
+    requires exact { (alloc : _) (tokens : _) (ask : _) (result : _) (after : _) → F.post level.now.read alloc tokens ask result after → Asked level.now.at ask tokens.now result after.now }
+    requires whole { level.now.at.left ≡ level.now.at.levels + 1 }
+    requires ranks { 0 < level.now.at.ranks }
+    requires blocks { 0 < level.now.at.blocks }
+    requires size { length source.now ≤ 2 ^ 31 }
+    ensures { IsRead (within level.now.at nesting) (beyond level.now.at nesting) (chars source.now) result }
+{
+    let cut = cut(alloc, source)?;
+    let mut tokens = Cursor::new(cut.tokens.items());
+    let read = unit(level, alloc, &mut tokens, nesting);
+    told(&cut, &tokens, read)
+}
