@@ -38,7 +38,8 @@ fn accessor<F: Fn(Global, &mut Cursor<Token>, Ask) -> Result<Got, Or<Fault>>>(
     })
 }
 
-fn without_setter(
+/// The end of a property that has no setter.
+pub fn without_setter(
     tokens: &mut Cursor<Token>,
     getter: Option<Accessor>,
 ) -> Result<Accessors, Or<Fault>>

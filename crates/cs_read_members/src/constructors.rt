@@ -109,7 +109,8 @@ fn initializer<F: Fn(Global, &mut Cursor<Token>, Ask) -> Result<Got, Or<Fault>>>
     })
 }
 
-fn maker(
+/// The end of a constructor without a block.
+pub fn maker(
     tokens: &mut Cursor<Token>,
     marked: Marked,
     name: Name,

@@ -18,5 +18,8 @@ mod kinds_of_members;
 mod methods;
 mod parts;
 
+pub use accessors::without_setter;
+pub use constructors::maker;
 pub use kinds_of_members::any_member;
-pub use parts::{limit, params};
+pub use methods::more_parts;
+pub use parts::{limit, named, params};

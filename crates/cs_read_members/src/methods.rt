@@ -62,7 +62,8 @@ fn one_more_part(
     Ok(Implementing { path, name: next })
 }
 
-fn more_parts(
+/// The names that stand behind the first two of an interface and its method.
+pub fn more_parts(
     alloc: Global,
     tokens: &mut Cursor<Token>,
     first: Implementing,

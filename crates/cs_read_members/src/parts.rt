@@ -34,11 +34,7 @@ pub(crate) fn are_no(params: &Seq<Param>) -> bool
 }
 
 /// Takes a name of one of these kinds.
-pub(crate) fn named(
-    alloc: Global,
-    tokens: &mut Cursor<Token>,
-    kinds: &[u16],
-) -> Result<Name, Or<Fault>>
+pub fn named(alloc: Global, tokens: &mut Cursor<Token>, kinds: &[u16]) -> Result<Name, Or<Fault>>
     ensures { Reads ((one kind_of kinds.now name_of).reads tokens.old) result tokens.new }
 {
     let token = take_one(tokens, kinds)?;

@@ -9,9 +9,9 @@ ghost use Rattle.cs_units.specs.Kinds.{body_kinds, item_kinds};
 ghost use Rattle.cs_units.specs.Declarations.{kind_of_body, enum_type as enum_type_of, delegate_type as delegate_type_of, one_more_item as one_more_item_of, body_type as body_type_of, type_behind as type_behind_of, member_item as member_item_of, type_item as type_item_of, item_at, type_at};
 ghost use Rattle.cs_read_calls.specs.Asked.{inner_of, Asked};
 
-use crate::bases::bases;
 use crate::delegates::delegate_type;
 use crate::enums::enum_type;
+use crate::supertypes::bases;
 use cs_grammar::{Cursor, Fault, Kinded, begins, expect, take_one};
 use cs_read_calls::{Ask, Got, Level};
 use cs_read_members::{any_member, limit};
@@ -26,7 +26,7 @@ use dc_base::{Boxed, Items, Or};
 use std::alloc::Global;
 
 /// What a type with a body of members is, by the kind of its word.
-fn kind(word: u16) -> Kind
+pub fn kind(word: u16) -> Kind
     ensures { result ≡ kind_of_body word }
 {
     match word {

@@ -31,7 +31,7 @@ fn outcome(
 }
 
 /// `delegate int D(int a);`
-pub(crate) fn delegate_type(
+pub fn delegate_type(
     alloc: Global,
     tokens: &mut Cursor<Token>,
     limit: u16,

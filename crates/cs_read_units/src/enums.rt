@@ -76,7 +76,7 @@ fn enumerators(alloc: Global, tokens: &mut Cursor<Token>) -> Result<Seq<Enumerat
 }
 
 /// `enum E : int { A = 0, B = -1, }`
-pub(crate) fn enum_type(
+pub fn enum_type(
     alloc: Global,
     tokens: &mut Cursor<Token>,
     limit: u16,

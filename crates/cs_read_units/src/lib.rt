@@ -12,11 +12,14 @@
 //! [`Level`]: cs_read_calls::Level
 #![tactic(auto)]
 
-mod bases;
 mod bodies;
 mod delegates;
 mod enums;
 mod spaces;
+mod supertypes;
 
-pub use bodies::{item, type_in_text};
-pub use spaces::unit;
+pub use bodies::{item, kind, type_in_text};
+pub use delegates::delegate_type;
+pub use enums::enum_type;
+pub use spaces::{placed_path, unit};
+pub use supertypes::bases;

@@ -43,7 +43,8 @@ fn more_steps(alloc: Global, tokens: &mut Cursor<Token>, first: Path) -> Result<
     Ok(path)
 }
 
-fn placed_path(alloc: Global, tokens: &mut Cursor<Token>) -> Result<Path, Or<Fault>>
+/// The path of a namespace.
+pub fn placed_path(alloc: Global, tokens: &mut Cursor<Token>) -> Result<Path, Or<Fault>>
     ensures { Reads (placed_path_of.reads tokens.old) result tokens.new }
 {
     let first = any_name(alloc, tokens)?;

@@ -5,7 +5,7 @@ use Rattle.cs_productions.specs.Tokens.{kind}
 use Rattle.cs_productions.specs.Kinds.{comma}
 use Rattle.cs_units.specs.Declarations.{one_more_base}
 use Rattle.cs_read_types.proofs.Looping.{fail_on, fails_too}
-use Rattle.cs_read_units.proofs.bases.more_bases.Goals as goal
+use Rattle.cs_read_units.proofs.supertypes.more_bases.Goals as goal
 
 pub turns-preserved : goal.turns-preserved
 turns-preserved c =

@@ -4,7 +4,7 @@ use Rattle.cs_grammar.specs.Grammar.{turns, read_rounds}
 use Rattle.cs_productions.specs.Tokens.{kind}
 use Rattle.cs_productions.specs.Kinds.{comma}
 use Rattle.cs_units.specs.Declarations.{one_more_base}
-use Rattle.cs_read_units.proofs.bases.more_bases.Given as goal
+use Rattle.cs_read_units.proofs.supertypes.more_bases.Given as goal
 
 abbrev pub invariant-turns : goal.invariant-turns
 invariant-turns l =

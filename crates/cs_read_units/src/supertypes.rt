@@ -62,7 +62,7 @@ fn given_bases(
 }
 
 /// The types that stand behind a colon, if there is one.
-pub(crate) fn bases(
+pub fn bases(
     alloc: Global,
     tokens: &mut Cursor<Token>,
     limit: u16,

@@ -1,0 +1,6 @@
+-- What a reader must believe: the rows that a reference text declares.
+pub mod MemberRows
+pub mod Pairs
+pub mod Text
+-- Inner facts: members by what an explicit implementation names.
+pub mod Keys
