@@ -17,6 +17,6 @@ mod tests;
 mod words;
 
 pub use digits::write_number;
-pub use quoted::{write_character, write_text};
+pub use quoted::{write_character, write_numbered, write_text};
 pub use reading::written_is_read;
 pub use words::write_name;

@@ -34,8 +34,8 @@ fn write_digit(out: &mut String, digit: u16) -> Result<(), NoMemory>
     write_ascii(out, if digit < 10 { 48 + digit } else { 87 + digit })
 }
 
-/// Writes a unit by its number.
-fn write_numbered(out: &mut String, unit: u16) -> Result<(), NoMemory>
+/// Writes a UTF-16 unit by its number: `\u` and four hexadecimal digits in small letters.
+pub fn write_numbered(out: &mut String, unit: u16) -> Result<(), NoMemory>
     ensures { OnOk result (string_bytes out.new ≡ string_bytes out.old ++ 92 ∷ 117 ∷ hex_spelled unit) }
 {
     out.push_str("\\u")?;

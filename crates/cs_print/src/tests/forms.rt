@@ -1,23 +1,12 @@
-// Trees that were made by hand, and the texts that they are laid out as.
+// Expressions and statements.
 
-use crate::{write_form, write_syntax};
+use crate::tests::made::{SPOT, empty, global, int, name, number, params, var};
+use cs_forms::{write_form, write_syntax};
 use cs_token::Suffix;
-use cs_tree::{
-    BinaryOp, Block, Form, KeywordType, Literal, Name, Param, Spot, Syntax, TypeForm, TypeName,
-    UnaryOp, Way,
-};
-use dc_base::{Boxed, Items, NoMemory, Seq, Text};
+use cs_tree::{BinaryOp, Block, Form, Syntax, TypeForm, UnaryOp};
+use dc_base::{Boxed, Items, NoMemory};
 use std::alloc::Global;
 use std::test::Fail;
-
-const SPOT: Spot = Spot::NONE;
-
-fn var(alloc: Global, name: &str) -> Result<Form, NoMemory> {
-    Ok(Form::Name {
-        spot: SPOT,
-        text: Text::of(alloc, name)?,
-    })
-}
 
 fn binary(alloc: Global, op: BinaryOp, left: Form, right: Form) -> Result<Form, NoMemory> {
     Ok(Form::Binary {
@@ -36,16 +25,6 @@ fn minus(alloc: Global, operand: Form) -> Result<Form, NoMemory> {
     })
 }
 
-fn int() -> TypeForm {
-    TypeForm {
-        spot: SPOT,
-        name: TypeName::Keyword {
-            keyword: KeywordType::Int,
-        },
-        ranks: 0,
-    }
-}
-
 fn cast(alloc: Global, ty: TypeForm, operand: Form) -> Result<Form, NoMemory> {
     Ok(Form::Cast {
         spot: SPOT,
@@ -54,14 +33,11 @@ fn cast(alloc: Global, ty: TypeForm, operand: Form) -> Result<Form, NoMemory> {
     })
 }
 
-fn member(alloc: Global, object: Form, name: &str) -> Result<Form, NoMemory> {
+fn member(alloc: Global, object: Form, text: &str) -> Result<Form, NoMemory> {
     Ok(Form::Member {
         spot: SPOT,
         object: Boxed::new(alloc, object)?,
-        name: Name {
-            spot: SPOT,
-            text: Text::of(alloc, name)?,
-        },
+        name: name(alloc, text)?,
     })
 }
 
@@ -112,18 +88,9 @@ fn adder(alloc: Global) -> Result<Form, NoMemory> {
         spot: SPOT,
         value: Some(sum),
     })?;
-    let mut params = Seq::new(alloc);
-    params.push(Param {
-        way: Way::Value,
-        ty: int(),
-        name: Name {
-            spot: SPOT,
-            text: Text::of(alloc, "v1")?,
-        },
-    })?;
     Ok(Form::Lambda {
         spot: SPOT,
-        params,
+        params: params(alloc, &["v1"])?,
         block: Block { stmts, end: SPOT },
     })
 }
@@ -131,14 +98,7 @@ fn adder(alloc: Global) -> Result<Form, NoMemory> {
 #[test]
 fn a_lambda_ends_its_line_with_its_brace(rt: HostRuntime) -> Result<(), Fail> {
     let alloc = rt.alloc();
-    let mut path = Seq::new(alloc);
-    path.push(Text::of(alloc, "N")?)?;
-    path.push(Text::of(alloc, "D")?)?;
-    let delegate = TypeForm {
-        spot: SPOT,
-        name: TypeName::Global { path },
-        ranks: 0,
-    };
+    let delegate = global(alloc, "N", "D")?;
     let returned = Syntax::Return {
         spot: SPOT,
         value: Some(cast(alloc, delegate, adder(alloc)?)?),
@@ -159,26 +119,14 @@ fn a_block_stands_on_lines_of_its_own(rt: HostRuntime) -> Result<(), Fail> {
     stmts.push(Syntax::Declare {
         spot: SPOT,
         ty: int(),
-        name: Name {
-            spot: SPOT,
-            text: Text::of(alloc, "v3")?,
-        },
-        value: Form::Literal {
-            spot: SPOT,
-            literal: Literal::Number {
-                value: 5,
-                suffix: Suffix::Long,
-            },
-        },
+        name: name(alloc, "v3")?,
+        value: number(5, Suffix::Long),
     })?;
     let chosen = Syntax::If {
         spot: SPOT,
         test: binary(alloc, BinaryOp::Less, var(alloc, "a0")?, var(alloc, "a1")?)?,
         block: Block { stmts, end: SPOT },
-        otherwise: Some(Block {
-            stmts: Items::new(alloc),
-            end: SPOT,
-        }),
+        otherwise: Some(empty(alloc)),
     };
     let mut out = String::new(alloc);
     write_syntax(alloc, &mut out, &chosen, "")?;

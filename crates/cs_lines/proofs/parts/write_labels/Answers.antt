@@ -1,6 +1,6 @@
 use Rattle.cs_layout.specs.Layout.{label_pieces}
 use Rattle.cs_layout.proofs.Following.{item_written}
-use Rattle.cs_forms.proofs.layout.write_labels.Goals as goal
+use Rattle.cs_lines.proofs.parts.write_labels.Goals as goal
 
 pub loop-label-preserved : goal.loop-label-preserved
 loop-label-preserved c =

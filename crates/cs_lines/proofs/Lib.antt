@@ -1,0 +1,1 @@
+-- The lemmas stand in cs_layout.

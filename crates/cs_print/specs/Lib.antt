@@ -1,0 +1,1 @@
+-- All definitions stand in cs_layout and cs_unit_layout.

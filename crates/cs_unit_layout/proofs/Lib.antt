@@ -1,0 +1,3 @@
+-- Which calls cite each file in the proof of their clauses.
+-- headwords::text
+pub mod Words

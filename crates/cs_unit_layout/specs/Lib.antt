@@ -1,0 +1,4 @@
+-- What a reader must believe: how declarations are printed.
+pub mod Heads
+pub mod Members
+pub mod Units
