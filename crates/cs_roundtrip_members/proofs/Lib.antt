@@ -1,0 +1,5 @@
+-- Which calls cite each file in the proof of their clauses. A file without a call serves the files that are cited.
+pub mod Heads
+pub mod Members
+-- laws::members_are_read_back
+pub mod Whole
