@@ -1,5 +1,6 @@
 -- Which calls cite each file in the proof of their clauses. A file without a call serves the files that are cited.
 pub mod Heads
 pub mod Members
+pub mod Methods
 -- laws::members_are_read_back
 pub mod Whole

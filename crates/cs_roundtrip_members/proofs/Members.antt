@@ -73,7 +73,7 @@ name_or_global text = go (bytes_eq text (codes "global")) (bytes_eq text (codes 
     go false false false true = inl refl
     go false false false false = inl refl
 
-name_same : (x y : Name) → HasText y.text x → bare_name x ≡ bare_name y
+pub name_same : (x y : Name) → HasText y.text x → bare_name x ≡ bare_name y
 name_same x y e = ap (λ z. record { spot = nowhere; text = z }) e
 
 -- behind a type: a name, and what stands behind it
@@ -114,7 +114,7 @@ member_type inner m (type_name.Global texts) r ps Q h l y =
     (λ u q. y u (q.0, q.1 ∙ omega arith))))))))
 
 -- with a type and a name
-member_typed : (limit : ℕ) (inner : Inner) (m : Marked) (t : TypeForm) (x : Name) (ps : List Piece) (Q : Member → Type 0) → inner.ranks ≡ limit → IsType limit t
+pub member_typed : (limit : ℕ) (inner : Inner) (m : Marked) (t : TypeForm) (x : Name) (ps : List Piece) (Q : Member → Type 0) → inner.ranks ≡ limit → IsType limit t
     → ((u : TypeForm) (y : Name) → bare_type u ≡ bare_type t → bare_name y ≡ bare_name x → Spells (behind_name inner m u y) ps Q) → Spells (any_member inner m) (typed t x ++ ps) Q
 unfolding fixed
 member_typed limit inner m t x ps Q same h y =
@@ -173,11 +173,11 @@ any_last inner m x =
 known : (limit : ℕ) (inner : Inner) (t : TypeForm) → inner.ranks ≡ limit → IsType limit t → IsType inner.ranks t
 known limit inner t e h = subst (λ r. IsType r t) (sym e) h
 
-known_params : (limit : ℕ) (inner : Inner) (ps : List Param) → inner.ranks ≡ limit → All (IsParam limit) ps → All (IsParam inner.ranks) ps
+pub known_params : (limit : ℕ) (inner : Inner) (ps : List Param) → inner.ranks ≡ limit → All (IsParam limit) ps → All (IsParam inner.ranks) ps
 known_params limit inner ps e h = subst (λ r. All (IsParam r) ps) (sym e) h
 
 -- a type and a name
-typed_then : {B : Type 0} {Q : B → Type 0} {f : TypeForm → Name → Grammar Token B} (limit : ℕ) (inner : Inner) (t : TypeForm) (x : Name) (ps : List Piece) → inner.ranks ≡ limit → IsType limit t
+pub typed_then : {B : Type 0} {Q : B → Type 0} {f : TypeForm → Name → Grammar Token B} (limit : ℕ) (inner : Inner) (t : TypeForm) (x : Name) (ps : List Piece) → inner.ranks ≡ limit → IsType limit t
     → ((u : TypeForm) (y : Name) → bare_type u ≡ bare_type t → bare_name y ≡ bare_name x → Spells (f u y) ps Q)
     → Spells (bind (ty inner.ranks) (λ u. bind any_name (λ y. f u y))) (typed t x ++ ps) Q
 unfolding fixed
@@ -239,7 +239,7 @@ maker_name text = go (bytes_eq text (codes "global")) (bytes_eq text (codes "get
     go false false false true = inr (inl refl)
     go false false false false = inl refl
 
-member_name : (inner : Inner) (m : Marked) (text : List ℕ) (ps : List Piece) (Q : Member → Type 0) → ((y : Name) → HasText text y → Spells (constructing inner m y) ps Q)
+pub member_name : (inner : Inner) (m : Marked) (text : List ℕ) (ps : List Piece) (Q : Member → Type 0) → ((y : Name) → HasText text y → Spells (constructing inner m y) ps Q)
     → Spells (any_member inner m) (name text ++ ps) Q
 unfolding name
 member_name inner m text ps Q x =
