@@ -2,5 +2,6 @@
 pub mod Heads
 pub mod Members
 pub mod Methods
+pub mod Explicit
 -- laws::members_are_read_back
 pub mod Whole

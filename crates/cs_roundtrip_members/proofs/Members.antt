@@ -63,7 +63,7 @@ behind_note note margin ps = lexemes-append (note_pieces note margin) ps ∙ ap 
 
 -- names that may be `global` or `indexer`
 
-name_or_global : (text : List ℕ) → (has name_kinds (kind_of_name text) ≡ true) ⊎ (has (global ∷ []) (kind_of_name text) ≡ true)
+pub name_or_global : (text : List ℕ) → (has name_kinds (kind_of_name text) ≡ true) ⊎ (has (global ∷ []) (kind_of_name text) ≡ true)
 name_or_global text = go (bytes_eq text (codes "global")) (bytes_eq text (codes "get")) (bytes_eq text (codes "set")) (bytes_eq text (codes "indexer"))
   where
     go : (a b c d : Bool) → (has name_kinds (cond a 4 (cond b 5 (cond c 6 (cond d 7 0)))) ≡ true) ⊎ (has (global ∷ []) (cond a 4 (cond b 5 (cond c 6 (cond d 7 0)))) ≡ true)
@@ -88,7 +88,7 @@ behind_type_name inner m t text ps Q x = elim (name_or_global text) [
 ]
 
 -- a member that begins with a type
-member_type : (inner : Inner) (m : Marked) (x : TypeName) (r : ℕ) (ps : List Piece) (Q : Member → Type 0) → IsTypeName x → r ≤ inner.ranks
+pub member_type : (inner : Inner) (m : Marked) (x : TypeName) (r : ℕ) (ps : List Piece) (Q : Member → Type 0) → IsTypeName x → r ≤ inner.ranks
     → ((u : TypeForm) → IsNamed x r u → Spells (behind_type inner m u) ps Q) → Spells (any_member inner m) (layout.type_without_ranks x ++ (layout.ranks r ++ ps)) Q
 unfolding fixed
 member_type inner m (type_name.Keyword k) r ps Q h l y =

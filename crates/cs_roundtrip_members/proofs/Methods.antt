@@ -91,7 +91,7 @@ reads_constructor levels limit blocks inner s note mods x params f b margin insi
 
 -- static constructors
 
-static_only : Mods
+abbrev static_only : Mods
 static_only =
     record { access = None; is_static = true; is_abstract = false; is_sealed = false; is_virtual = false; is_override = false; is_readonly = false; is_extern = false }
 
@@ -170,3 +170,47 @@ reads_property levels limit blocks inner s note mods t x g r margin inside h k j
     (says_made (property_of m u y) (says_accessors levels limit blocks inner g r margin inside k j) (λ a d. λ i. member.Property nowhere None (e i) (p i) (q i) (d.0 i) (d.1 i)))))))
     (behind_note note margin (property_laid mods t x g r margin)
     ∙ (line_front margin (property_head mods t x) (accessors_laid g r margin) ∙ ap lexemes (append_assoc (mods_pieces mods) (typed t x) (accessors_laid g r margin))))
+
+-- static constructors
+
+pub reads_initializer : (levels limit blocks : ℕ) (inner : Inner) (s : Spot) (note : Option (List ℕ)) (x : Name) (b : Block) (margin : List ℕ) → IsInside levels limit blocks inner
+    → IsWellFormedBlock levels limit blocks b → MemberIsRead inner (member.Initializer s note x b) (note_pieces note margin ++ initializer_laid x b margin)
+unfolding fixed headword indent
+reads_initializer levels limit blocks inner s note x b margin inside k =
+    says_like
+    (says_then (says_modifiers static_only)
+    (λ m e. member_name inner m x.text (params_pieces [] ++ block_behind b margin) (SameMember (member.Initializer s note x b))
+    (λ y q. says_then (says_params inner.ranks [] (λ j d l. absurd (omega (arith, l))))
+    (λ ps d. says_second (colon ∷ []) (constructor inner m y ps)
+    (choice_first (only_static m.mods && are_none ps) (brace ∷ []) (maker m y ps) (ap (λ z. only_static z && are_none ps) e ∙ none_read ps d)
+    (skips (10 ∷ []) (says_made (initializer_of m y) (says_braced b margin (inside.bodies b k)) (λ c w. let n = name_same y x q in λ i. member.Initializer nowhere None (n i) (w i)))))))))
+    (behind_note note margin (initializer_laid x b margin)
+    ∙ ap (λ z. lexeme.Keyword 58 ∷ lexemes z) (append_assoc (name x.text) (token (lexeme.Sign 2) ∷ token (lexeme.Sign 3) ∷ []) (block_behind b margin)))
+
+-- indexers, in reference texts
+
+pub reads_indexer : (levels limit blocks : ℕ) (inner : Inner) (s : Spot) (mods : Mods) (t : TypeForm) (x : Name) (u : TypeForm) (y : Name) (g r : Option Accessor) (margin : List ℕ) → IsInside levels limit blocks inner
+    → IsType limit t → IsType limit u → IsAccessor levels limit blocks g → IsAccessor levels limit blocks r
+    → MemberIsRead inner (member.Indexer s mods t x u y g r) (line margin (indexer_head mods t x u y) ++ accessors_laid g r margin)
+unfolding fixed headword
+reads_indexer levels limit blocks inner s mods t x u y g r margin inside h o k j =
+    says_like
+    (says_then (says_modifiers mods)
+    (λ m e. says_second keyword_types (keyword_member inner m)
+    (says_second (global ∷ []) (global_member inner m)
+    (says_first (indexer ∷ []) (either kind maker_names (named_member inner m) (either kind (kw_void ∷ []) (void_method inner m) (choice kind (unmarked m) (kw_operator ∷ []) (operator inner) (constant inner m))))
+    (takes (indexer ∷ []) name_of (lexeme.Name (codes "indexer")) refl
+    (λ f _. skips (32 ∷ [])
+    (says_second (paren ∷ []) (constructing inner m (name_of f))
+    (typed_then limit inner t x (token (lexeme.Sign 4) ∷ (typed u y ++ (token (lexeme.Sign 5) ∷ accessors_laid g r margin))) inside.ranks h
+    (λ t₁ x₁ p q. takes (bracket ∷ []) (λ _. tt) (lexeme.Sign 4) refl
+    (λ _ _. typed_then limit inner u y (token (lexeme.Sign 5) ∷ accessors_laid g r margin) inside.ranks o
+    (λ u₁ y₁ v w. takes (unbracket ∷ []) (λ _. tt) (lexeme.Sign 5) refl
+    (λ _ _. says_made (indexer_of m (name_of f).spot t₁ x₁ u₁ y₁) (says_accessors levels limit blocks inner g r margin inside k j)
+    (λ a d. λ i. member.Indexer nowhere (e i) (p i) (q i) (v i) (w i) (d.0 i) (d.1 i))))))))))))))
+    (line_front margin (indexer_head mods t x u y) (accessors_laid g r margin)
+    ∙ ap lexemes
+    (append_assoc (mods_pieces mods) (headword begin.Indexer ++ (typed t x ++ (token (lexeme.Sign 4) ∷ (typed u y ++ token (lexeme.Sign 5) ∷ [])))) (accessors_laid g r margin)
+    ∙ ap (λ z. mods_pieces mods ++ (headword begin.Indexer ++ z))
+    (append_assoc (typed t x) (token (lexeme.Sign 4) ∷ (typed u y ++ token (lexeme.Sign 5) ∷ [])) (accessors_laid g r margin)
+    ∙ ap (λ z. typed t x ++ (token (lexeme.Sign 4) ∷ z)) (append_assoc (typed u y) (token (lexeme.Sign 5) ∷ []) (accessors_laid g r margin)))))
