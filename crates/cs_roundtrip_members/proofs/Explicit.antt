@@ -1,5 +1,5 @@
 -- Methods are read, those that implement a method of an interface by name among them.
-use Rattle.std.proofs.Common.{◌≡◌, ◌⊎◌, inl, inr, ℕ, zero, suc, ◌≤◌, Bool, true, false, List, [], ◌∷◌, ◌++◌, map, All, Option, Some, None, refl, sym, ◌∙◌, ap, subst, codes, arith}
+use Rattle.std.proofs.Common.{◌≡◌, inl, inr, ℕ, true, List, [], ◌∷◌, ◌++◌, All, Option, Some, None, refl, sym, ◌∙◌, ap, codes, arith}
 use Rattle.std.specs.Option.{option_map}
 use Rattle.std.proofs.lemmas.List.{append-nil, append_assoc}
 use Rattle.cs_token.specs.Placed.{Placed as Token}
@@ -14,29 +14,29 @@ use Rattle.cs_tree.specs.declared.members.Explicit.{Explicit}
 use Rattle.cs_tree.specs.declared.members.Member.{Member}
 use Rattle.cs_tree.specs.declared.members.Member.TheVariants as member
 use Rattle.cs_tree.specs.Bare.{nowhere, bare_name, bare_type}
-use Rattle.cs_tree.specs.BareUnits.{bare_explicit, bare_member}
-use Rattle.cs_grammar.specs.Grammar.{Grammar, gives, bind, either, choice, turns}
-use Rattle.cs_productions.specs.Kinds.{names, global, indexer, paren, semicolon, colons, dot, equals, keyword_types, kw_void, kw_operator}
-use Rattle.cs_productions.specs.Tokens.{kind, sign, spot_of, text_of_lexeme, name_of, name_text, any_name}
+use Rattle.cs_tree.specs.BareUnits.{bare_explicit}
+use Rattle.cs_grammar.specs.Grammar.{Grammar, bind, choice, turns}
+use Rattle.cs_productions.specs.Kinds.{global, indexer, paren, semicolon, colons, dot, equals, keyword_types, kw_void, kw_operator}
+use Rattle.cs_productions.specs.Tokens.{kind, sign, spot_of, text_of_lexeme, name_of, any_name}
 use Rattle.cs_productions.specs.Inner.{Inner}
 use Rattle.cs_statements.specs.Kinds.{name_kinds}
 use Rattle.cs_units.specs.Kinds.{maker_names}
 use Rattle.cs_units.specs.declared.values.Marked.{Marked}
 use Rattle.cs_units.specs.declared.values.Implementing.{Implementing}
-use Rattle.cs_units.specs.Modifiers.{modifiers, unmarked, start}
+use Rattle.cs_units.specs.Modifiers.{unmarked, start}
 use Rattle.cs_units.specs.Members.{field, method_of, method, implementing_first, implementing_more, one_more_part, explicit_of, implementing, property, behind_name, name_behind, behind_type, void_global, void_name, void_method, constant, operator, keyword_member, global_member, indexer_member, named_member, any_member}
-use Rattle.cs_layout.specs.Pieces.{Piece, gap, token}
+use Rattle.cs_layout.specs.Pieces.{Piece, token}
 use Rattle.cs_layout.specs.declared.fixed.Fixed.TheVariants as part
 use Rattle.cs_layout.specs.Words as layout
 use Rattle.cs_layout.specs.Words.{fixed, name}
-use Rattle.cs_layout.specs.Layout.{indent, typed}
+use Rattle.cs_layout.specs.Layout.{indent}
 use Rattle.cs_unit_layout.specs.declared.headwords.Headword.TheVariants as begin
-use Rattle.cs_unit_layout.specs.Heads.{headword, mods_pieces, result_pieces, explicit_pieces, params_pieces, note_pieces}
+use Rattle.cs_unit_layout.specs.Heads.{headword, mods_pieces, params_pieces, note_pieces}
 use Rattle.cs_unit_layout.specs.Members.{body_behind, bodied, method_head}
-use Rattle.cs_wellformed.specs.Words.{IsPath, IsType, IsParam}
+use Rattle.cs_wellformed.specs.Words.{IsPath, IsParam}
 use Rattle.cs_roundtrip_types.specs.Spells.{lexemes, Spells}
-use Rattle.cs_roundtrip_types.proofs.Spelling.{says_nothing, skips, takes, says_then, says_made, says_so, says_like, says_in, says_first, says_second, says_no_round, says_round}
-use Rattle.cs_roundtrip_types.proofs.Types.{HasText, same_type, says_name_text, says_name, SameParams}
+use Rattle.cs_roundtrip_types.proofs.Spelling.{skips, takes, says_then, says_made, says_so, says_like, says_in, says_first, says_second, says_no_round, says_round}
+use Rattle.cs_roundtrip_types.proofs.Types.{HasText, same_type, says_name_text, says_name}
 use Rattle.cs_roundtrip_members.specs.Members.{IsResult, IsBody, IsExplicit}
 use Rattle.cs_roundtrip_members.specs.Inside.{IsInside}
 use Rattle.cs_roundtrip_members.proofs.Heads.{says_modifiers, says_params, says_body}
@@ -143,7 +143,7 @@ unfolding fixed headword name
 void_named inner m text ps Q x =
     takes (kw_void ∷ []) spot_of (lexeme.Keyword 74) refl
     (λ s _. skips (32 ∷ []) (elim (name_or_global text) [
-      inl is ↦ says_second (global ∷ []) (void_global inner m (spot_of s)) (takes name_kinds name_of (lexeme.Name text) is (λ y e. x (start m (spot_of s)) (name_of y) (ap text_of_lexeme e)))
+      | inl is ↦ says_second (global ∷ []) (void_global inner m (spot_of s)) (takes name_kinds name_of (lexeme.Name text) is (λ y e. x (start m (spot_of s)) (name_of y) (ap text_of_lexeme e)))
       | inr is ↦ says_first (global ∷ []) (void_name inner m (spot_of s))
           (takes (global ∷ []) name_of (lexeme.Name text) is
           (λ y e. says_second (colons ∷ []) (implementing inner (start m (spot_of s)) m None (name_of y).spot) (x (start m (spot_of s)) (name_of y) (ap text_of_lexeme e))))

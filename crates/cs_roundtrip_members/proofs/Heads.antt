@@ -1,12 +1,10 @@
 -- Modifiers, parameters and blocks of members are read.
-use Rattle.std.proofs.Common.{◌≡◌, ◌⊎◌, inl, inr, ℕ, zero, suc, Bool, true, false, cond, List, [], ◌∷◌, ◌++◌, map, All, Option, Some, None, refl, sym, ◌∙◌, ap, subst, codes}
+use Rattle.std.proofs.Common.{◌≡◌, ℕ, Bool, true, false, cond, List, [], ◌∷◌, map, All, Option, Some, None, refl, sym, ◌∙◌, ap, subst}
 use Rattle.std.specs.Prelude.{is_some}
 use Rattle.std.specs.Option.{option_map}
-use Rattle.std.proofs.lemmas.List.{append-nil, append_assoc}
-use Rattle.cs_token.specs.Placed.{Placed as Token}
+use Rattle.std.proofs.lemmas.List.{append_assoc}
 use Rattle.cs_token.specs.Tokens.{kind_of}
 use Rattle.cs_token.specs.declared.lexeme.Lexeme.TheVariants as lexeme
-use Rattle.cs_tree.specs.declared.types.Spot.{Spot}
 use Rattle.cs_tree.specs.declared.types.Param.{Param}
 use Rattle.cs_tree.specs.declared.forms.Block.{Block}
 use Rattle.cs_tree.specs.declared.members.Access.{Access}
@@ -14,7 +12,7 @@ use Rattle.cs_tree.specs.declared.members.Access.TheVariants.{Public, Private, P
 use Rattle.cs_tree.specs.declared.members.Mods.{Mods}
 use Rattle.cs_tree.specs.Bare.{bare_param, bare_block}
 use Rattle.cs_grammar.specs.Kinds.{has}
-use Rattle.cs_grammar.specs.Grammar.{Grammar, gives, either}
+use Rattle.cs_grammar.specs.Grammar.{gives, either}
 use Rattle.cs_productions.specs.Kinds.{paren, unparen, semicolon, kw_public, kw_private, kw_protected, kw_internal, kw_static, kw_abstract, kw_sealed, kw_virtual, kw_override, kw_readonly, kw_extern}
 use Rattle.cs_productions.specs.Tokens.{kind, spot_of}
 use Rattle.cs_productions.specs.Inner.{Inner}
@@ -25,10 +23,8 @@ use Rattle.cs_units.specs.declared.values.Marked.{Marked}
 use Rattle.cs_units.specs.Modifiers.{some_spot, no_spot, flag_given, flag, access_of, no_access, public_access, internal_access, private_access, protected_access, given_access, access, marked, modifiers, unmarked}
 use Rattle.cs_units.specs.Members.{no_params, one_param, empty_params, some_params, params, no_body, given_body, body}
 use Rattle.cs_layout.specs.Pieces.{Piece, gap, token}
-use Rattle.cs_layout.specs.declared.fixed.Fixed.TheVariants as part
 use Rattle.cs_layout.specs.Words as layout
 use Rattle.cs_layout.specs.Words.{fixed}
-use Rattle.cs_layout.specs.Layout.{block_laid, braced}
 use Rattle.cs_unit_layout.specs.declared.headwords.Headword.{Headword}
 use Rattle.cs_unit_layout.specs.declared.headwords.Headword.TheVariants as begin
 use Rattle.cs_unit_layout.specs.Heads.{headword, access_pieces, flag_pieces, mods_pieces, params_pieces}
@@ -36,8 +32,7 @@ use Rattle.cs_unit_layout.specs.Members.{body_behind}
 use Rattle.cs_wellformed.specs.Words.{IsParam}
 use Rattle.cs_roundtrip_types.specs.Spells.{lexemes, Spells}
 use Rattle.cs_roundtrip_types.proofs.Spelling.{says_nothing, skips, takes, says_then, says_made, says_so, says_like, says_first, says_second}
-use Rattle.cs_roundtrip_types.proofs.Types.{all_first, all_others, SameParam, same_param, SameParams, says_param, says_more_params}
-use Rattle.cs_roundtrip_forms.specs.Reading.{BlockIsRead}
+use Rattle.cs_roundtrip_types.proofs.Types.{all_first, all_others, same_param, SameParams, says_param, says_more_params}
 use Rattle.cs_roundtrip_statements.proofs.Lines.{says_braced}
 use Rattle.cs_roundtrip_members.specs.Members.{IsBody}
 use Rattle.cs_roundtrip_members.specs.Inside.{IsInside}

@@ -1,10 +1,10 @@
 -- Members are read, each where its parts are.
-use Rattle.std.proofs.Common.{◌≡◌, ◌⊎◌, inl, inr, ℕ, zero, suc, ◌+◌, ◌≤◌, Bool, true, false, cond, List, [], ◌∷◌, ◌++◌, ◌&&◌, map, All, Option, Some, None, refl, sym, ◌∙◌, ap, subst, codes, arith}
+use Rattle.std.proofs.Common.{◌≡◌, ◌⊎◌, inl, inr, ℕ, ◌≤◌, Bool, true, false, cond, List, [], ◌∷◌, ◌++◌, ◌&&◌, All, Option, Some, None, refl, sym, ◌∙◌, ap, subst, codes, arith}
 use Rattle.std.specs.Option.{option_map}
 use Rattle.std.specs.Str.{bytes_eq}
-use Rattle.std.proofs.lemmas.List.{append-nil, append_assoc}
+use Rattle.std.proofs.lemmas.List.{append_assoc}
 use Rattle.cs_token.specs.Placed.{Placed as Token}
-use Rattle.cs_token.specs.Tokens.{kind_of, kind_of_name}
+use Rattle.cs_token.specs.Tokens.{kind_of_name}
 use Rattle.cs_token.specs.declared.lexeme.Lexeme.TheVariants as lexeme
 use Rattle.cs_tree.specs.declared.types.Spot.{Spot}
 use Rattle.cs_tree.specs.declared.types.Name.{Name}
@@ -13,44 +13,40 @@ use Rattle.cs_tree.specs.declared.types.TypeName.TheVariants as type_name
 use Rattle.cs_tree.specs.declared.types.TypeForm.{TypeForm}
 use Rattle.cs_tree.specs.declared.types.Param.{Param}
 use Rattle.cs_tree.specs.declared.forms.Form.{Form}
-use Rattle.cs_tree.specs.declared.forms.Block.{Block}
 use Rattle.cs_tree.specs.declared.members.Mods.{Mods}
-use Rattle.cs_tree.specs.declared.members.Explicit.{Explicit}
 use Rattle.cs_tree.specs.declared.members.Member.{Member}
 use Rattle.cs_tree.specs.declared.members.Member.TheVariants as member
-use Rattle.cs_tree.specs.Bare.{nowhere, bare_name, bare_type, bare_form, bare_param, bare_block}
-use Rattle.cs_tree.specs.BareUnits.{bare_explicit, bare_member}
-use Rattle.cs_productions.specs.declared.values.Part.TheVariants.{Whole}
+use Rattle.cs_tree.specs.Bare.{nowhere, bare_name, bare_type, bare_form}
+use Rattle.cs_tree.specs.BareUnits.{bare_member}
 use Rattle.cs_grammar.specs.Kinds.{has}
-use Rattle.cs_grammar.specs.Grammar.{Grammar, gives, bind, either, choice, turns}
-use Rattle.cs_productions.specs.Kinds.{names, global, indexer, brace, paren, semicolon, colon, colons, dot, equals, keyword_types, kw_const, kw_void, kw_operator}
-use Rattle.cs_productions.specs.Tokens.{kind, spot_of, text_of_lexeme, name_of, name_text, any_name}
-use Rattle.cs_productions.specs.Types.{global_type, ranks, ty}
+use Rattle.cs_grammar.specs.Grammar.{Grammar, bind, either, choice}
+use Rattle.cs_productions.specs.Kinds.{global, indexer, brace, paren, semicolon, colon, colons, equals, keyword_types, kw_const, kw_void, kw_operator}
+use Rattle.cs_productions.specs.Tokens.{kind, spot_of, text_of_lexeme, name_of, any_name}
+use Rattle.cs_productions.specs.Types.{global_type, ty}
 use Rattle.cs_productions.specs.Inner.{Inner}
 use Rattle.cs_statements.specs.Kinds.{name_kinds}
 use Rattle.cs_statements.specs.Jumps.{some_form, no_form, no_value}
 use Rattle.cs_units.specs.Kinds.{maker_names}
 use Rattle.cs_units.specs.declared.values.Marked.{Marked}
-use Rattle.cs_units.specs.declared.values.Implementing.{Implementing}
 use Rattle.cs_units.specs.Modifiers.{modifiers, unmarked, only_static, start}
-use Rattle.cs_units.specs.Members.{params, body, first_value, field_of, field, method_of, method, implementing_first, implementing_more, one_more_part, explicit_of, implementing, property, behind_name, global_behind, name_behind, behind_type, void_global, void_name, void_method, constant_of, constant, operator_of, operator, are_none, constructor, initializer, maker_of, maker, constructing, indexing, path_member, keyword_member, global_member, indexer_member, named_member, any_member}
+use Rattle.cs_units.specs.Members.{params, first_value, field_of, method, implementing, property, behind_name, global_behind, name_behind, behind_type, void_method, constant_of, constant, operator_of, operator, are_none, constructor, initializer, maker_of, constructing, indexing, path_member, keyword_member, global_member, indexer_member, named_member, any_member}
 use Rattle.cs_layout.specs.Pieces.{Piece, gap, token}
 use Rattle.cs_layout.specs.declared.fixed.Fixed.TheVariants as part
 use Rattle.cs_layout.specs.Words as layout
 use Rattle.cs_layout.specs.Words.{fixed, name}
-use Rattle.cs_layout.specs.Layout.{form_shown, line, indent, typed}
+use Rattle.cs_layout.specs.Layout.{form_shown, line, typed}
 use Rattle.cs_unit_layout.specs.declared.headwords.Headword.TheVariants as begin
-use Rattle.cs_unit_layout.specs.Heads.{headword, mods_pieces, result_pieces, explicit_pieces, params_pieces, note_pieces, name_note, noted}
-use Rattle.cs_unit_layout.specs.Members.{body_behind, bodied, initial_value, method_head, field_laid, constant_laid, operator_head, maker_head}
-use Rattle.cs_wellformed.specs.Words.{IsName, IsPath, IsTypeName, IsType, IsParam}
+use Rattle.cs_unit_layout.specs.Heads.{headword, mods_pieces, params_pieces, note_pieces, name_note, noted}
+use Rattle.cs_unit_layout.specs.Members.{initial_value, field_laid, constant_laid, operator_head, maker_head}
+use Rattle.cs_wellformed.specs.Words.{IsTypeName, IsType, IsParam}
 use Rattle.cs_wellformed.specs.WellFormed.{IsWellFormedForm}
 use Rattle.cs_roundtrip_types.specs.Spells.{lexemes, Spells}
-use Rattle.cs_roundtrip_types.proofs.Spelling.{lexemes-append, says_nothing, skips, takes, says_then, says_made, says_so, says_like, says_in, says_first, says_second}
-use Rattle.cs_roundtrip_types.proofs.Types.{IsNamed, HasText, SameType, same_type, says_name_text, says_name, says_path, says_keyword_type, says_ranks, says_type, SameParams}
-use Rattle.cs_roundtrip_statements.proofs.Lines.{line_is, both_like}
-use Rattle.cs_roundtrip_members.specs.Members.{IsResult, IsFirstValue, IsBody, IsExplicit}
+use Rattle.cs_roundtrip_types.proofs.Spelling.{lexemes-append, says_nothing, skips, takes, says_then, says_made, says_so, says_like, says_first, says_second}
+use Rattle.cs_roundtrip_types.proofs.Types.{IsNamed, HasText, same_type, says_name, says_path, says_keyword_type, says_ranks, says_type}
+use Rattle.cs_roundtrip_statements.proofs.Lines.{line_is}
+use Rattle.cs_roundtrip_members.specs.Members.{IsFirstValue}
 use Rattle.cs_roundtrip_members.specs.Inside.{IsInside}
-use Rattle.cs_roundtrip_members.proofs.Heads.{says_modifiers, says_no_modifiers, says_params, SameBlocks, says_body}
+use Rattle.cs_roundtrip_members.proofs.Heads.{says_modifiers, says_no_modifiers, says_params}
 
 -- a note leaves no token
 pub note_is : (note : Option (List ℕ)) (margin : List ℕ) → lexemes (note_pieces note margin) ≡ []
@@ -81,7 +77,7 @@ behind_type_name : (inner : Inner) (m : Marked) (t : TypeForm) (text : List ℕ)
     → ((y : Name) → HasText text y → Spells (behind_name inner m t y) ps Q) → Spells (behind_type inner m t) (name text ++ ps) Q
 unfolding name
 behind_type_name inner m t text ps Q x = elim (name_or_global text) [
-  inl is ↦ says_second (global ∷ []) (global_behind inner m t) (takes name_kinds name_of (lexeme.Name text) is (λ y e. x (name_of y) (ap text_of_lexeme e)))
+  | inl is ↦ says_second (global ∷ []) (global_behind inner m t) (takes name_kinds name_of (lexeme.Name text) is (λ y e. x (name_of y) (ap text_of_lexeme e)))
   | inr is ↦ says_first (global ∷ []) (name_behind inner m t)
       (takes (global ∷ []) name_of (lexeme.Name text) is
       (λ y e. says_second (colons ∷ []) (implementing inner (start m t.spot) m (Some t) (name_of y).spot) (x (name_of y) (ap text_of_lexeme e))))
@@ -244,7 +240,7 @@ pub member_name : (inner : Inner) (m : Marked) (text : List ℕ) (ps : List Piec
 unfolding name
 member_name inner m text ps Q x =
     says_second keyword_types (keyword_member inner m) (elim (maker_name text) [
-      inl is ↦ says_second (global ∷ []) (global_member inner m)
+      | inl is ↦ says_second (global ∷ []) (global_member inner m)
           (says_second (indexer ∷ []) (indexer_member inner m)
           (says_first maker_names (either kind (kw_void ∷ []) (void_method inner m) (choice kind (unmarked m) (kw_operator ∷ []) (operator inner) (constant inner m)))
           (takes maker_names name_of (lexeme.Name text) is (λ y e. x (name_of y) (ap text_of_lexeme e)))))

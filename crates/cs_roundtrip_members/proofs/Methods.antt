@@ -1,54 +1,48 @@
 -- Methods, constructors and accessors are read.
-use Rattle.std.proofs.Common.{◌≡◌, ◌⊎◌, inl, inr, ℕ, zero, suc, ◌+◌, ◌≤◌, ◌&&◌, Bool, true, false, cond, List, [], ◌∷◌, ◌++◌, map, All, Option, Some, None, refl, sym, ◌∙◌, ap, subst, codes, arith}
+use Rattle.std.proofs.Common.{◌≡◌, inr, ℕ, ◌&&◌, true, false, List, [], ◌∷◌, ◌++◌, All, Option, Some, None, refl, ◌∙◌, ap, codes, arith}
 use Rattle.std.specs.Option.{option_map}
-use Rattle.std.proofs.lemmas.List.{append-nil, append_assoc}
-use Rattle.cs_token.specs.Placed.{Placed as Token}
+use Rattle.std.proofs.lemmas.List.{append_assoc}
 use Rattle.cs_token.specs.Tokens.{kind_of}
 use Rattle.cs_token.specs.declared.lexeme.Lexeme.TheVariants as lexeme
 use Rattle.cs_tree.specs.declared.types.Spot.{Spot}
 use Rattle.cs_tree.specs.declared.types.Name.{Name}
 use Rattle.cs_tree.specs.declared.types.TypeForm.{TypeForm}
 use Rattle.cs_tree.specs.declared.types.Param.{Param}
-use Rattle.cs_tree.specs.declared.forms.Arg.{Arg}
 use Rattle.cs_tree.specs.declared.forms.Block.{Block}
 use Rattle.cs_tree.specs.declared.members.Mods.{Mods}
 use Rattle.cs_tree.specs.declared.members.Initial.{Initial}
 use Rattle.cs_tree.specs.declared.members.Initial.TheVariants as initial
-use Rattle.cs_tree.specs.declared.members.Explicit.{Explicit}
 use Rattle.cs_tree.specs.declared.members.Accessor.{Accessor}
-use Rattle.cs_tree.specs.declared.members.Member.{Member}
 use Rattle.cs_tree.specs.declared.members.Member.TheVariants as member
-use Rattle.cs_tree.specs.Bare.{nowhere, bare_name, bare_type, bare_param, bare_block}
-use Rattle.cs_tree.specs.BareUnits.{bare_initial, bare_explicit, bare_accessor, bare_member}
+use Rattle.cs_tree.specs.Bare.{nowhere, bare_name}
+use Rattle.cs_tree.specs.BareUnits.{bare_initial, bare_accessor}
 use Rattle.cs_grammar.specs.Kinds.{has}
-use Rattle.cs_grammar.specs.Grammar.{Grammar, gives, bind, either, choice, turns}
-use Rattle.cs_productions.specs.Kinds.{names, global, getter, setter, indexer, brace, unbrace, paren, semicolon, bracket, unbracket, colon, colons, dot, equals, keyword_types, kw_base, kw_this, kw_void, kw_operator}
-use Rattle.cs_productions.specs.Tokens.{kind, spot_of, name_of, any_name}
+use Rattle.cs_grammar.specs.Grammar.{bind, either, choice}
+use Rattle.cs_productions.specs.Kinds.{global, getter, setter, indexer, brace, unbrace, paren, semicolon, bracket, unbracket, colon, equals, keyword_types, kw_base, kw_this, kw_void, kw_operator}
+use Rattle.cs_productions.specs.Tokens.{kind, spot_of, name_of}
 use Rattle.cs_productions.specs.Inner.{Inner}
-use Rattle.cs_statements.specs.Kinds.{name_kinds}
 use Rattle.cs_units.specs.Kinds.{maker_names}
 use Rattle.cs_units.specs.declared.values.Marked.{Marked}
 use Rattle.cs_units.specs.declared.values.Accessors.{Accessors}
 use Rattle.cs_units.specs.Modifiers.{modifiers, unmarked, only_static, start}
-use Rattle.cs_units.specs.Members.{are_none, field, method_of, method, accessor_of, accessor, some_accessor, no_accessor, accessors_of, without_setter, with_setter, behind_getter, with_getter, first_accessor, accessors, property_of, property, constant, operator, base_first, this_first, by_base, by_this, constructor_of, constructor, initializer_of, initializer, maker, indexer_of, indexing, constructing, keyword_member, global_member, indexer_member, named_member, void_method, any_member}
-use Rattle.cs_layout.specs.Pieces.{Piece, gap, token}
+use Rattle.cs_units.specs.Members.{are_none, field, method, accessor_of, accessor, some_accessor, no_accessor, accessors_of, without_setter, with_setter, behind_getter, first_accessor, accessors, property_of, constant, operator, base_first, this_first, by_base, by_this, constructor_of, constructor, initializer_of, initializer, maker, indexer_of, constructing, keyword_member, global_member, named_member, void_method}
+use Rattle.cs_layout.specs.Pieces.{Piece, token}
 use Rattle.cs_layout.specs.declared.fixed.Fixed.TheVariants as part
-use Rattle.cs_layout.specs.Words as layout
 use Rattle.cs_layout.specs.Words.{fixed, name}
-use Rattle.cs_layout.specs.Layout.{line, indent, deeper, typed, block_laid}
+use Rattle.cs_layout.specs.Layout.{line, indent, deeper, typed}
 use Rattle.cs_unit_layout.specs.declared.headwords.Headword.{Headword}
 use Rattle.cs_unit_layout.specs.declared.headwords.Headword.TheVariants as begin
 use Rattle.cs_unit_layout.specs.Heads.{headword, mods_pieces, params_pieces, note_pieces}
-use Rattle.cs_unit_layout.specs.Members.{block_behind, body_behind, bodied, maker_head, initial_pieces, initializer_head, constructor_laid, initializer_laid, accessor_laid, accessors_laid, property_head, property_laid, indexer_head}
+use Rattle.cs_unit_layout.specs.Members.{block_behind, body_behind, initial_pieces, constructor_laid, initializer_laid, accessor_laid, accessors_laid, property_head, property_laid, indexer_head}
 use Rattle.cs_wellformed.specs.Words.{IsType, IsParam}
 use Rattle.cs_wellformed.specs.WellFormed.{IsWellFormedBlock}
 use Rattle.cs_roundtrip_types.specs.Spells.{lexemes, Spells}
-use Rattle.cs_roundtrip_types.proofs.Spelling.{lexemes-append, says_nothing, skips, takes, says_then, says_made, says_so, says_like, says_in, says_first, says_second}
-use Rattle.cs_roundtrip_types.proofs.Types.{HasText, says_name, SameParams}
-use Rattle.cs_roundtrip_statements.proofs.Lines.{line_is, both_like, line_front, says_line, says_line_front, says_braced}
+use Rattle.cs_roundtrip_types.proofs.Spelling.{says_nothing, skips, takes, says_then, says_made, says_like, says_in, says_first, says_second}
+use Rattle.cs_roundtrip_types.proofs.Types.{SameParams}
+use Rattle.cs_roundtrip_statements.proofs.Lines.{line_front, says_line, says_line_front, says_braced}
 use Rattle.cs_roundtrip_members.specs.Members.{IsBody, IsAccessor, IsInitial}
 use Rattle.cs_roundtrip_members.specs.Inside.{IsInside}
-use Rattle.cs_roundtrip_members.proofs.Heads.{says_modifiers, says_no_modifiers, says_params, SameBlocks, says_body}
+use Rattle.cs_roundtrip_members.proofs.Heads.{says_modifiers, says_no_modifiers, says_params, says_body}
 use Rattle.cs_roundtrip_members.proofs.Members.{behind_note, choice_first, choice_second, known_params, typed_then, member_typed, member_name, name_same, SameMember, MemberIsRead}
 
 -- constructors

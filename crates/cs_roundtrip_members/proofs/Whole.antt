@@ -1,13 +1,10 @@
 -- Members are read back: what stands in them is, and each of them where its parts are.
-use Rattle.std.proofs.Common.{◌≡◌, ◌⊎◌, inl, inr, ℕ, zero, suc, ◌+◌, ◌≤◌, ◌<◌, Bool, true, false, List, [], ◌∷◌, ◌++◌, map, Option, Some, None, refl, sym, ◌∙◌, ap, subst, arith}
+use Rattle.std.proofs.Common.{◌≡◌, ℕ, zero, suc, ◌+◌, Bool, true, false, List, refl, sym, subst, arith}
 use Rattle.cs_token.specs.Placed.{Placed as Token}
-use Rattle.cs_tree.specs.declared.forms.Arg.{Arg}
-use Rattle.cs_tree.specs.declared.forms.Form.{Form}
 use Rattle.cs_tree.specs.declared.members.Member.{Member}
 use Rattle.cs_tree.specs.declared.members.Member.TheVariants as member
 use Rattle.cs_tree.specs.declared.declarations.Item.{Item}
 use Rattle.cs_tree.specs.declared.declarations.Item.TheVariants as item
-use Rattle.cs_tree.specs.Bare.{bare_form, bare_arg}
 use Rattle.cs_grammar.specs.Grammar.{Grammar, gives, bind}
 use Rattle.cs_productions.specs.Inner.{Inner}
 use Rattle.cs_productions.specs.Levels.{at, below}
@@ -18,7 +15,6 @@ use Rattle.cs_units.specs.Kinds.{type_words}
 use Rattle.cs_units.specs.Declarations.{type_item, member_item, item_in, lowest_item, item_at, inside}
 use Rattle.cs_units.proofs.DeeperDeclarations.{has_one_member}
 use Rattle.cs_layout.specs.Pieces.{Piece}
-use Rattle.cs_layout.specs.Layout.{form_shown}
 use Rattle.cs_unit_layout.specs.Members.{member_laid}
 use Rattle.cs_roundtrip_types.specs.Spells.{Spells}
 use Rattle.cs_roundtrip_types.proofs.Spelling.{says_so, says_in, says_made, read_back}
@@ -26,10 +22,10 @@ use Rattle.cs_roundtrip_forms.proofs.Reading.{whole, ranks_are, block_is}
 use Rattle.cs_roundtrip_forms.proofs.Opening.{else_derives}
 use Rattle.cs_roundtrip_forms.specs.Reading.{BlockIsRead}
 use Rattle.cs_roundtrip_statements.proofs.Blocks.{form_read, args_read, block_read}
-use Rattle.cs_roundtrip_members.specs.Members.{AreWellFormedArgs, IsWellFormedMember}
+use Rattle.cs_roundtrip_members.specs.Members.{IsWellFormedMember}
 use Rattle.cs_roundtrip_members.specs.Inside.{IsInside}
 use Rattle.cs_roundtrip_members.specs.Laws.{IsMemberAs, MembersAreReadBack}
-use Rattle.cs_roundtrip_members.proofs.Members.{SameMember, MemberIsRead, reads_field, reads_constant, reads_operator, reads_maker}
+use Rattle.cs_roundtrip_members.proofs.Members.{MemberIsRead, reads_field, reads_constant, reads_operator, reads_maker}
 use Rattle.cs_roundtrip_members.proofs.Methods.{reads_constructor, reads_initializer, reads_property, reads_indexer}
 use Rattle.cs_roundtrip_members.proofs.Explicit.{reads_method}
 
@@ -46,7 +42,7 @@ inside_at levels limit blocks =
       ranks = ranks_are (block_at levels limit blocks) blocks limit (suc levels);
     }
 
-is_inside : (levels limit blocks : ℕ) → IsInside levels limit blocks (inside levels limit blocks)
+pub is_inside : (levels limit blocks : ℕ) → IsInside levels limit blocks (inside levels limit blocks)
 is_inside levels limit blocks = subst (λ k. IsInside levels limit blocks (below (block_at levels limit blocks) blocks limit k)) (next levels) (inside_at levels limit blocks)
 
 member_read : (levels limit blocks : ℕ) (inner : Inner) (m : Member) (margin : List ℕ) → IsInside levels limit blocks inner → IsWellFormedMember levels limit blocks m → MemberIsRead inner m (member_laid m margin)
@@ -67,7 +63,7 @@ as_item room inner below_ m ps x =
     (λ ts i rest p d. (d.2.0, d.2.1, d.2.2, else_derives room type_words (type_item inner below_ d.2.0) (member_item inner d.2.0) d.2.1 i rest (d.0, d.1, d.2.3, d.3)))
     (says_made (λ n. item.Member n) x (λ n e. (n, refl, e)))
 
-at_any : (levels limit blocks nesting : ℕ) (m : Member) (margin : List ℕ) → IsWellFormedMember levels limit blocks m → Spells (item_at (inside levels limit blocks) nesting) (member_laid m margin) (IsMemberAs m)
+pub at_any : (levels limit blocks nesting : ℕ) (m : Member) (margin : List ℕ) → IsWellFormedMember levels limit blocks m → Spells (item_at (inside levels limit blocks) nesting) (member_laid m margin) (IsMemberAs m)
 at_any levels limit blocks zero m margin w =
     as_item false (inside levels limit blocks) (lowest_item (inside levels limit blocks)) m (member_laid m margin) (member_read levels limit blocks (inside levels limit blocks) m margin (is_inside levels limit blocks) w)
 at_any levels limit blocks (suc nesting) m margin w =
