@@ -140,7 +140,7 @@ module _ (levels limit : ℕ) where
         with_level (block_at levels limit kk) kk limit _ _
         (λ n m margin. reads_conditional (block_at levels limit kk) kk limit n margin s a l r h j k (form_read x kk (omega (arith, d))) (form_read y kk (omega (arith, d))) (form_read z kk (omega (arith, d))) m)
 
-    args_read : {args : List Arg} {j c : ℕ} → AreArgs levels limit args j c → (k : ℕ) → c ≤ k → (n : ℕ) → j ≤ n → (margin : List ℕ)
+    pub args_read : {args : List Arg} {j c : ℕ} → AreArgs levels limit args j c → (k : ℕ) → c ≤ k → (n : ℕ) → j ≤ n → (margin : List ℕ)
         → ArgsRead (at n (below (block_at levels limit k) k limit n)) args j margin
     args_read no_args k d = λ n m margin. args_none (at n (below (block_at levels limit k) k limit n)) margin
     args_read (more_args w a args h j b c x y) k d = λ n m margin.
