@@ -1,0 +1,208 @@
+// Declarations, assignments and calls, and what begins with a name.
+
+ghost use Rattle.std.specs.Prelude.{◌≡◌, ◌<◌};
+ghost use Rattle.cs_grammar.specs.Reads.{Reads};
+ghost use Rattle.cs_productions.specs.Tokens.{simple_of};
+ghost use Rattle.cs_statements.specs.Actions.{declared as declared_of, keyword_declared as keyword_declared_of, assigned as assigned_of, compounded as compounded_of, set_to as set_to_of, acted as acted_of, action_to as action_to_of, act as act_of, primary_act as primary_act_of, postfix_act as postfix_act_of, named_statement as named_statement_of};
+ghost use Rattle.cs_read_calls.specs.Asked.{inner_of, Asked};
+ghost use Rattle.cs_read_actions.specs.Place.{WholeRead};
+
+use crate::jumps::labelled;
+use crate::kinds::{ASSIGNMENT, COMPOUND, PLAIN_NAMES};
+use crate::leaves::{named, pairs};
+use crate::nodes::{assign, compound_assign, declare, invoke};
+use crate::place::{Place, expression};
+use crate::primaries::unnamed_primary;
+use cs_grammar::{Cursor, Fault, begins, expect, take_one};
+use cs_productions::Measured;
+use cs_read_calls::{Ask, Got};
+use cs_read_types::kinds::{COLON, EQUALS, SEMICOLON};
+use cs_read_types::{any_name, operator, spot, text, type_of_keyword};
+use cs_token::Token;
+use cs_tree::{Action, Syntax, TypeForm};
+use dc_base::Or;
+use std::alloc::Global;
+
+/// A declaration, behind its type.
+pub(crate) fn declared<F, G: Fn(Global, &mut Cursor<Token>) -> Result<Measured, Or<Fault>>>(
+    here: &Place<F, G>,
+    alloc: Global,
+    tokens: &mut Cursor<Token>,
+    ty: TypeForm,
+) -> Result<Syntax, Or<Fault>>
+    requires whole_callable { G.IsAlwaysCallable here.now.whole }
+    requires whole_exact { (alloc : _) (tokens : _) (result : _) (after : _) → G.post here.now.whole alloc tokens result after → WholeRead here.now.level.at tokens.now result after.now }
+    ensures { Reads ((declared_of here.now.level.at.left (inner_of here.now.level.at) ty).reads tokens.old) result tokens.new }
+{
+    let name = any_name(alloc, tokens)?;
+    expect(tokens, EQUALS)?;
+    let value = expression(here, alloc, tokens)?;
+    expect(tokens, SEMICOLON)?;
+    Ok(declare(ty, name, value))
+}
+
+/// A declaration that begins with a keyword.
+pub fn keyword_declared<F, G: Fn(Global, &mut Cursor<Token>) -> Result<Measured, Or<Fault>>>(
+    here: &Place<F, G>,
+    alloc: Global,
+    tokens: &mut Cursor<Token>,
+) -> Result<Syntax, Or<Fault>>
+    requires whole_callable { G.IsAlwaysCallable here.now.whole }
+    requires whole_exact { (alloc : _) (tokens : _) (result : _) (after : _) → G.post here.now.whole alloc tokens result after → WholeRead here.now.level.at tokens.now result after.now }
+    ensures { Reads ((keyword_declared_of here.now.level.at.left (inner_of here.now.level.at)).reads tokens.old) result tokens.new }
+{
+    let ty = type_of_keyword(tokens, pairs(&here.level))?;
+    declared(here, alloc, tokens, ty)
+}
+
+fn assigned<F, G: Fn(Global, &mut Cursor<Token>) -> Result<Measured, Or<Fault>>>(
+    here: &Place<F, G>,
+    alloc: Global,
+    tokens: &mut Cursor<Token>,
+    place: Measured,
+) -> Result<Action, Or<Fault>>
+    requires whole_callable { G.IsAlwaysCallable here.now.whole }
+    requires whole_exact { (alloc : _) (tokens : _) (result : _) (after : _) → G.post here.now.whole alloc tokens result after → WholeRead here.now.level.at tokens.now result after.now }
+    ensures { Reads ((assigned_of here.now.level.at.left (inner_of here.now.level.at) place).reads tokens.old) result tokens.new }
+{
+    expect(tokens, EQUALS)?;
+    let value = expression(here, alloc, tokens)?;
+    Ok(assign(place, value))
+}
+
+fn compounded<F, G: Fn(Global, &mut Cursor<Token>) -> Result<Measured, Or<Fault>>>(
+    here: &Place<F, G>,
+    alloc: Global,
+    tokens: &mut Cursor<Token>,
+    place: Measured,
+) -> Result<Action, Or<Fault>>
+    requires whole_callable { G.IsAlwaysCallable here.now.whole }
+    requires whole_exact { (alloc : _) (tokens : _) (result : _) (after : _) → G.post here.now.whole alloc tokens result after → WholeRead here.now.level.at tokens.now result after.now }
+    ensures { Reads ((compounded_of here.now.level.at.left (inner_of here.now.level.at) place).reads tokens.old) result tokens.new }
+{
+    let kind = operator(tokens, &COMPOUND)?;
+    let value = expression(here, alloc, tokens)?;
+    Ok(compound_assign(place, kind, value))
+}
+
+fn set_to<F, G: Fn(Global, &mut Cursor<Token>) -> Result<Measured, Or<Fault>>>(
+    here: &Place<F, G>,
+    alloc: Global,
+    tokens: &mut Cursor<Token>,
+    place: Measured,
+) -> Result<Action, Or<Fault>>
+    requires whole_callable { G.IsAlwaysCallable here.now.whole }
+    requires whole_exact { (alloc : _) (tokens : _) (result : _) (after : _) → G.post here.now.whole alloc tokens result after → WholeRead here.now.level.at tokens.now result after.now }
+    ensures { Reads ((set_to_of here.now.level.at.left (inner_of here.now.level.at) place).reads tokens.old) result tokens.new }
+{
+    if begins(tokens, &[EQUALS]) {
+        return assigned(here, alloc, tokens, place);
+    }
+    compounded(here, alloc, tokens, place)
+}
+
+fn acted<F, G: Fn(Global, &mut Cursor<Token>) -> Result<Measured, Or<Fault>>>(
+    here: &Place<F, G>,
+    alloc: Global,
+    tokens: &mut Cursor<Token>,
+    place: Measured,
+) -> Result<Action, Or<Fault>>
+    requires whole_callable { G.IsAlwaysCallable here.now.whole }
+    requires whole_exact { (alloc : _) (tokens : _) (result : _) (after : _) → G.post here.now.whole alloc tokens result after → WholeRead here.now.level.at tokens.now result after.now }
+    ensures { Reads ((acted_of here.now.level.at.left (inner_of here.now.level.at) place.is_call place).reads tokens.old) result tokens.new }
+{
+    if !place.is_call {
+        return set_to(here, alloc, tokens, place);
+    }
+    if begins(tokens, &ASSIGNMENT) {
+        return set_to(here, alloc, tokens, place);
+    }
+    Ok(invoke(place))
+}
+
+/// What is done to a place or with a call, and the sign behind it.
+pub fn action_to<F, G: Fn(Global, &mut Cursor<Token>) -> Result<Measured, Or<Fault>>>(
+    here: &Place<F, G>,
+    alloc: Global,
+    tokens: &mut Cursor<Token>,
+    end: u16,
+    place: Measured,
+) -> Result<Action, Or<Fault>>
+    requires whole_callable { G.IsAlwaysCallable here.now.whole }
+    requires whole_exact { (alloc : _) (tokens : _) (result : _) (after : _) → G.post here.now.whole alloc tokens result after → WholeRead here.now.level.at tokens.now result after.now }
+    ensures { Reads ((action_to_of here.now.level.at.left (inner_of here.now.level.at) end place.is_call place).reads tokens.old) result tokens.new }
+{
+    let action = acted(here, alloc, tokens, place)?;
+    expect(tokens, end)?;
+    Ok(action)
+}
+
+/// An assignment or a call, behind its place.
+pub(crate) fn act<F, G: Fn(Global, &mut Cursor<Token>) -> Result<Measured, Or<Fault>>>(
+    here: &Place<F, G>,
+    alloc: Global,
+    tokens: &mut Cursor<Token>,
+    place: Measured,
+) -> Result<Syntax, Or<Fault>>
+    requires whole_callable { G.IsAlwaysCallable here.now.whole }
+    requires whole_exact { (alloc : _) (tokens : _) (result : _) (after : _) → G.post here.now.whole alloc tokens result after → WholeRead here.now.level.at tokens.now result after.now }
+    ensures { Reads ((act_of here.now.level.at.left (inner_of here.now.level.at) place).reads tokens.old) result tokens.new }
+{
+    let spot = place.spot;
+    let action = action_to(here, alloc, tokens, SEMICOLON, place)?;
+    Ok(Syntax::Act { spot, action })
+}
+
+/// An assignment or a call that begins with no name.
+pub fn primary_act<F: Fn(Global, &mut Cursor<Token>, Ask) -> Result<Got, Or<Fault>>, G: Fn(Global, &mut Cursor<Token>) -> Result<Measured, Or<Fault>>>(
+    here: &Place<F, G>,
+    alloc: Global,
+    tokens: &mut Cursor<Token>,
+) -> Result<Syntax, Or<Fault>>
+    requires callable { F.IsAlwaysCallable here.now.level.read }
+    requires exact { (alloc : _) (tokens : _) (ask : _) (result : _) (after : _) → F.post here.now.level.read alloc tokens ask result after → Asked here.now.level.at ask tokens.now result after.now }
+    requires whole_callable { G.IsAlwaysCallable here.now.whole }
+    requires whole_exact { (alloc : _) (tokens : _) (result : _) (after : _) → G.post here.now.whole alloc tokens result after → WholeRead here.now.level.at tokens.now result after.now }
+    ensures { Reads ((primary_act_of here.now.level.at.left (inner_of here.now.level.at)).reads tokens.old) result tokens.new }
+{
+    let place = unnamed_primary(&here.level, alloc, tokens)?;
+    act(here, alloc, tokens, place)
+}
+
+/// An assignment or a call, behind the first part of its place.
+pub(crate) fn postfix_act<F: Fn(Global, &mut Cursor<Token>, Ask) -> Result<Got, Or<Fault>>, G: Fn(Global, &mut Cursor<Token>) -> Result<Measured, Or<Fault>>>(
+    here: &Place<F, G>,
+    alloc: Global,
+    tokens: &mut Cursor<Token>,
+    first: Measured,
+) -> Result<Syntax, Or<Fault>>
+    requires callable { F.IsAlwaysCallable here.now.level.read }
+    requires exact { (alloc : _) (tokens : _) (ask : _) (result : _) (after : _) → F.post here.now.level.read alloc tokens ask result after → Asked here.now.level.at ask tokens.now result after.now }
+    requires whole_callable { G.IsAlwaysCallable here.now.whole }
+    requires whole_exact { (alloc : _) (tokens : _) (result : _) (after : _) → G.post here.now.whole alloc tokens result after → WholeRead here.now.level.at tokens.now result after.now }
+    ensures { Reads ((postfix_act_of here.now.level.at.left (inner_of here.now.level.at) first).reads tokens.old) result tokens.new }
+{
+    let place = here.level.postfixes(alloc, tokens, first)?;
+    act(here, alloc, tokens, place)
+}
+
+/// A label, or an assignment or a call that begins with a name.
+pub fn named_statement<F: Fn(Global, &mut Cursor<Token>, Ask) -> Result<Got, Or<Fault>>, G: Fn(Global, &mut Cursor<Token>) -> Result<Measured, Or<Fault>>>(
+    here: &Place<F, G>,
+    alloc: Global,
+    tokens: &mut Cursor<Token>,
+) -> Result<Syntax, Or<Fault>>
+    requires callable { F.IsAlwaysCallable here.now.level.read }
+    requires exact { (alloc : _) (tokens : _) (ask : _) (result : _) (after : _) → F.post here.now.level.read alloc tokens ask result after → Asked here.now.level.at ask tokens.now result after.now }
+    requires whole_callable { G.IsAlwaysCallable here.now.whole }
+    requires whole_exact { (alloc : _) (tokens : _) (result : _) (after : _) → G.post here.now.whole alloc tokens result after → WholeRead here.now.level.at tokens.now result after.now }
+    ensures { Reads ((named_statement_of here.now.level.at.left (inner_of here.now.level.at)).reads tokens.old) result tokens.new }
+{
+    let token = take_one(tokens, &PLAIN_NAMES)?;
+    if begins(tokens, &[COLON]) {
+        let label = text(alloc, token)?;
+        return labelled(tokens, spot(token), label);
+    }
+    let name = named(alloc, token)?;
+    postfix_act(here, alloc, tokens, name)
+}
