@@ -1,7 +1,5 @@
 -- Which calls cite each file in the proof of their clauses. A file without a call serves the files that are cited.
 -- leaves::pairs, leaves::blocks
 pub mod Levels
--- actions::plain_name
+-- primaries::simple_among
 pub mod Names
--- actions::primary_act, actions::postfix_act, paths::path_act
-pub mod Binds

@@ -17,11 +17,7 @@ use dc_base::{Or, Text};
 use std::alloc::Global;
 
 /// `name: ;`, behind the name
-pub(crate) fn labelled(
-    tokens: &mut Cursor<Token>,
-    spot: Spot,
-    label: Text,
-) -> Result<Syntax, Or<Fault>>
+pub fn labelled(tokens: &mut Cursor<Token>, spot: Spot, label: Text) -> Result<Syntax, Or<Fault>>
     ensures { Reads ((labelled_of spot label).reads tokens.old) result tokens.new }
 {
     expect(tokens, COLON)?;

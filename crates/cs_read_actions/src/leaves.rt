@@ -27,7 +27,7 @@ pub fn blocks<F>(level: &Level<F>) -> u16
 }
 
 /// A name as an expression.
-pub(crate) fn named(alloc: Global, token: &Token) -> Result<Measured, NoMemory>
+pub fn named(alloc: Global, token: &Token) -> Result<Measured, NoMemory>
     ensures { IfOk result (λ name. name ≡ global_leaf token.now) }
 {
     let spot = spot(token);

@@ -1,10 +1,11 @@
-//! Readers of statements without a block: declarations, assignments, calls, labels and jumps (ECMA-334, 12.21, 13.5, 13.6.2, 13.7,
-//! 13.10), each exactly its production in `cs_statements`.
+//! Readers of what statements without a block are made of (ECMA-334, 12.21, 13.5, 13.6.2, 13.7, 13.10), each exactly its production
+//! in `cs_statements`: the places and calls that they begin with, assignments behind a place, declarations behind a type, labels and
+//! jumps.
 //!
 //! ```text
 //! Place: the level of the expressions, and the reader of a whole one
 //!   ├─ jumps · labels
-//!   └─ places and calls ─ what is done to them ─ what begins with a name, with `global`, with a type
+//!   └─ places and calls ─ what a place is set to ─ declarations
 //! ```
 #![tactic(auto)]
 
@@ -17,9 +18,10 @@ mod paths;
 mod place;
 mod primaries;
 
-pub use actions::{action_to, keyword_declared, named_statement, primary_act};
-pub use jumps::jump;
-pub use leaves::{blocks, pairs};
-pub use paths::global_statement;
+pub use actions::{declared, keyword_declared, set_to};
+pub use jumps::{jump, labelled};
+pub use leaves::{blocks, named, pairs};
+pub use nodes::invoke;
+pub use paths::{array_declared, called_or_alone, global_type};
 pub use place::{Place, expression};
-pub use primaries::primary;
+pub use primaries::{primary, unnamed_primary};

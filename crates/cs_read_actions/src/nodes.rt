@@ -2,11 +2,10 @@
 
 ghost use Rattle.std.specs.Prelude.{◌≡◌};
 ghost use Rattle.cs_statements.specs.Actions.{declare_of, compound_of, assign_of, compound_assign_of, invoke_of};
-ghost use Rattle.cs_tree.specs.declared.forms.Syntax.TheVariants.{Act};
 
 use crate::kinds::{AMP_EQUALS, BAR_EQUALS, MINUS_EQUALS, PLUS_EQUALS, TIMES_EQUALS};
 use cs_productions::Measured;
-use cs_tree::{Action, AssignOp, Name, Spot, Syntax, TypeForm};
+use cs_tree::{Action, AssignOp, Name, Syntax, TypeForm};
 
 /// `int x = a;`
 pub(crate) fn declare(ty: TypeForm, name: Name, value: Measured) -> Syntax
@@ -55,7 +54,7 @@ pub(crate) fn compound_assign(place: Measured, kind: u16, value: Measured) -> Ac
 }
 
 /// `a.b(c)`
-pub(crate) fn invoke(call: Measured) -> Action
+pub fn invoke(call: Measured) -> Action
     ensures { result ≡ invoke_of call }
 {
     Action::Invoke { call: call.form }

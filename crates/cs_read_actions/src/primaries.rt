@@ -103,7 +103,7 @@ fn uncounted_primary<F: Fn(Global, &mut Cursor<Token>, Ask) -> Result<Got, Or<Fa
 }
 
 /// A place or a call that begins with no name.
-pub(crate) fn unnamed_primary<F: Fn(Global, &mut Cursor<Token>, Ask) -> Result<Got, Or<Fault>>>(
+pub fn unnamed_primary<F: Fn(Global, &mut Cursor<Token>, Ask) -> Result<Got, Or<Fault>>>(
     level: &Level<F>,
     alloc: Global,
     tokens: &mut Cursor<Token>,
