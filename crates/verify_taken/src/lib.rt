@@ -6,4 +6,5 @@ mod member;
 mod named;
 mod row;
 
+pub use element::fits_kind;
 pub use row::is_taken;

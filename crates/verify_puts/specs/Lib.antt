@@ -1,0 +1,2 @@
+-- Inner facts: what is asked of a slot that goes to a place.
+pub mod Fits
