@@ -2,8 +2,10 @@
 #![tactic(auto)]
 
 mod fit;
+mod law;
 mod place;
 mod puts;
 
 pub use fit::{Fit, fits};
+pub use law::parts_are_all;
 pub use puts::puts_fit;
