@@ -8,7 +8,7 @@ mod depth;
 mod place;
 mod writing;
 
-pub use border::keeps_border;
+pub use border::{below, keeps_border};
 pub use depth::{given, is_emptied, is_shallow, keeps_depth, taken};
-pub use place::{are_zeros, argument, is_receiver};
-pub use writing::{keeps_init_only, keeps_this};
+pub use place::{are_zeros, argument, is_receiver, owner_kind, result_of};
+pub use writing::{is_this, keeps_init_only, keeps_this};

@@ -1,0 +1,2 @@
+-- The parts of what is put: law::parts_are_all.
+pub mod Parts
