@@ -160,7 +160,7 @@ fn constructors_and_initializers(rt: HostRuntime) -> Result<(), Fail> {
 }
 
 #[test]
-fn properties_and_their_accessors(rt: HostRuntime) -> Result<(), Fail> {
+fn a_property_with_a_getter(rt: HostRuntime) -> Result<(), Fail> {
     let alloc = rt.alloc();
     let property = Member::Property {
         spot: SPOT,
@@ -168,12 +168,31 @@ fn properties_and_their_accessors(rt: HostRuntime) -> Result<(), Fail> {
         mods: public(),
         ty: int(),
         name: name(alloc, "P")?,
-        getter: accessor(None, Some(returning(alloc, "x")?)),
+        getter: accessor(None, None),
+        setter: None,
+    };
+    assert_eq!(rt;
+        printed(alloc, &property)?.as_str(),
+        "{\n    public int P\n    {\n        get;\n    }\n"
+    );
+    Ok(())
+}
+
+#[test]
+fn a_property_with_a_setter(rt: HostRuntime) -> Result<(), Fail> {
+    let alloc = rt.alloc();
+    let property = Member::Property {
+        spot: SPOT,
+        note: None,
+        mods: public(),
+        ty: int(),
+        name: name(alloc, "P")?,
+        getter: None,
         setter: accessor(Some(Access::Private), None),
     };
     assert_eq!(rt;
         printed(alloc, &property)?.as_str(),
-        "{\n    public int P\n    {\n        get\n        {\n            return x;\n        }\n        private set;\n    }\n"
+        "{\n    public int P\n    {\n        private set;\n    }\n"
     );
     Ok(())
 }
