@@ -160,44 +160,6 @@ fn constructors_and_initializers(rt: HostRuntime) -> Result<(), Fail> {
 }
 
 #[test]
-fn a_property_with_a_getter(rt: HostRuntime) -> Result<(), Fail> {
-    let alloc = rt.alloc();
-    let property = Member::Property {
-        spot: SPOT,
-        note: None,
-        mods: public(),
-        ty: int(),
-        name: name(alloc, "P")?,
-        getter: accessor(None, None),
-        setter: None,
-    };
-    assert_eq!(rt;
-        printed(alloc, &property)?.as_str(),
-        "{\n    public int P\n    {\n        get;\n    }\n"
-    );
-    Ok(())
-}
-
-#[test]
-fn a_property_with_a_setter(rt: HostRuntime) -> Result<(), Fail> {
-    let alloc = rt.alloc();
-    let property = Member::Property {
-        spot: SPOT,
-        note: None,
-        mods: public(),
-        ty: int(),
-        name: name(alloc, "P")?,
-        getter: None,
-        setter: accessor(Some(Access::Private), None),
-    };
-    assert_eq!(rt;
-        printed(alloc, &property)?.as_str(),
-        "{\n    public int P\n    {\n        private set;\n    }\n"
-    );
-    Ok(())
-}
-
-#[test]
 fn members_of_reference_texts(rt: HostRuntime) -> Result<(), Fail> {
     let alloc = rt.alloc();
     let maker = Member::Maker {
