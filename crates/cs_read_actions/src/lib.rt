@@ -21,7 +21,7 @@ mod primaries;
 pub use actions::{declared, keyword_declared, set_to};
 pub use jumps::{jump, labelled};
 pub use leaves::{blocks, named, pairs};
-pub use nodes::invoke;
+pub use nodes::{assign, compound_assign, invoke};
 pub use paths::{array_declared, called_or_alone, global_type};
 pub use place::{Place, expression};
 pub use primaries::{primary, unnamed_primary};

@@ -33,7 +33,7 @@ fn compound(kind: u16) -> AssignOp
 }
 
 /// `a = b`
-pub(crate) fn assign(place: Measured, value: Measured) -> Action
+pub fn assign(place: Measured, value: Measured) -> Action
     ensures { result ≡ assign_of place value }
 {
     Action::Assign {
@@ -43,7 +43,7 @@ pub(crate) fn assign(place: Measured, value: Measured) -> Action
 }
 
 /// `a += b`
-pub(crate) fn compound_assign(place: Measured, kind: u16, value: Measured) -> Action
+pub fn compound_assign(place: Measured, kind: u16, value: Measured) -> Action
     ensures { result ≡ compound_assign_of place kind value }
 {
     Action::Compound {

@@ -1,81 +1,103 @@
 // Assignments and calls, and what begins with a name.
 
 ghost use Rattle.std.specs.Prelude.{◌≡◌, true, false, MatchResult, IfOk, Ok, Err};
-ghost use Rattle.cs_grammar.specs.Grammar.{one};
+ghost use Rattle.cs_grammar.specs.Grammar.{gives, one};
 ghost use Rattle.cs_grammar.specs.Reads.{Reads};
 ghost use Rattle.cs_grammar.specs.declared.fault.Fault.TheVariants.{Unexpected};
 ghost use Rattle.cs_productions.specs.Tokens.{kind as kind_of, simple_of};
 ghost use Rattle.cs_productions.specs.Primaries.{global_leaf};
 ghost use Rattle.cs_statements.specs.Kinds.{name_kinds};
-ghost use Rattle.cs_statements.specs.Actions.{acted as acted_of, action_to as action_to_of, act as act_of, primary_act as primary_act_of, postfix_act as postfix_act_of, named_statement as named_statement_of};
+ghost use Rattle.cs_statements.specs.Actions.{assigned as assigned_of, compounded as compounded_of, set_to as set_to_of, invoke_of, action_to as action_to_of, act as act_of, primary_act as primary_act_of, postfix_act as postfix_act_of, named_statement as named_statement_of};
 ghost use Rattle.cs_read_calls.specs.Asked.{inner_of, Asked};
 ghost use Rattle.cs_read_actions.specs.Place.{WholeRead};
-ghost use Rattle.cs_read_acts.specs.Acts.{act_as, ended_by};
+ghost use Rattle.cs_read_acts.specs.Acts.{act_as, called as called_of, with_end};
 
 use cs_grammar::{Cursor, Fault, begins, expect, take_one};
 use cs_productions::Measured;
-use cs_read_actions::kinds::{ASSIGNMENT, PLAIN_NAMES};
-use cs_read_actions::{Place, invoke, labelled, named, set_to, unnamed_primary};
+use cs_read_actions::kinds::{ASSIGNMENT, COMPOUND, PLAIN_NAMES};
+use cs_read_actions::{Place, assign, compound_assign, expression, invoke, labelled, named, unnamed_primary};
 use cs_read_calls::{Ask, Got};
-use cs_read_types::kinds::{COLON, SEMICOLON};
-use cs_read_types::{spot, text};
+use cs_read_types::kinds::{COLON, EQUALS, SEMICOLON};
+use cs_read_types::{operator, spot, text};
 use cs_token::Token;
 use cs_tree::{Action, Syntax};
 use dc_base::{NoMemory, Or};
 use std::alloc::Global;
 
-fn called<F, G: Fn(Global, &mut Cursor<Token>) -> Result<Measured, Or<Fault>>>(
+fn assigned<F, G: Fn(Global, &mut Cursor<Token>) -> Result<Measured, Or<Fault>>>(
     here: &Place<F, G>,
     alloc: Global,
     tokens: &mut Cursor<Token>,
-    call: Measured,
+    last: u16,
+    place: Measured,
 ) -> Result<Action, Or<Fault>>
     requires whole_callable { G.IsAlwaysCallable here.now.whole }
     requires whole_exact { (alloc : _) (tokens : _) (result : _) (after : _) → G.post here.now.whole alloc tokens result after → WholeRead here.now.level.at tokens.now result after.now }
-    ensures { Reads ((acted_of here.now.level.at.left (inner_of here.now.level.at) true call).reads tokens.old) result tokens.new }
+    ensures { Reads ((with_end last (assigned_of here.now.level.at.left (inner_of here.now.level.at) place)).reads tokens.old) result tokens.new }
 {
-    if begins(tokens, &ASSIGNMENT) {
-        return set_to(here, alloc, tokens, call);
-    }
-    Ok(invoke(call))
+    expect(tokens, EQUALS)?;
+    let value = expression(here, alloc, tokens)?;
+    expect(tokens, last)?;
+    Ok(assign(place, value))
 }
 
-/// The sign behind an action.
-fn ended(tokens: &mut Cursor<Token>, end: u16, action: Action) -> Result<Action, Or<Fault>>
-    ensures { Reads ((ended_by end action).reads tokens.old) result tokens.new }
+fn compounded<F, G: Fn(Global, &mut Cursor<Token>) -> Result<Measured, Or<Fault>>>(
+    here: &Place<F, G>,
+    alloc: Global,
+    tokens: &mut Cursor<Token>,
+    last: u16,
+    place: Measured,
+) -> Result<Action, Or<Fault>>
+    requires whole_callable { G.IsAlwaysCallable here.now.whole }
+    requires whole_exact { (alloc : _) (tokens : _) (result : _) (after : _) → G.post here.now.whole alloc tokens result after → WholeRead here.now.level.at tokens.now result after.now }
+    ensures { Reads ((with_end last (compounded_of here.now.level.at.left (inner_of here.now.level.at) place)).reads tokens.old) result tokens.new }
 {
-    expect(tokens, end)?;
-    Ok(action)
+    let kind = operator(tokens, &COMPOUND)?;
+    let value = expression(here, alloc, tokens)?;
+    expect(tokens, last)?;
+    Ok(compound_assign(place, kind, value))
+}
+
+/// An assignment, and the sign behind it.
+fn place_to<F, G: Fn(Global, &mut Cursor<Token>) -> Result<Measured, Or<Fault>>>(
+    here: &Place<F, G>,
+    alloc: Global,
+    tokens: &mut Cursor<Token>,
+    last: u16,
+    place: Measured,
+) -> Result<Action, Or<Fault>>
+    requires whole_callable { G.IsAlwaysCallable here.now.whole }
+    requires whole_exact { (alloc : _) (tokens : _) (result : _) (after : _) → G.post here.now.whole alloc tokens result after → WholeRead here.now.level.at tokens.now result after.now }
+    ensures { Reads ((with_end last (set_to_of here.now.level.at.left (inner_of here.now.level.at) place)).reads tokens.old) result tokens.new }
+{
+    if begins(tokens, &[EQUALS]) {
+        return assigned(here, alloc, tokens, last, place);
+    }
+    compounded(here, alloc, tokens, last, place)
+}
+
+fn invoked(tokens: &mut Cursor<Token>, last: u16, call: Measured) -> Result<Action, Or<Fault>>
+    ensures { Reads ((with_end last (gives (invoke_of call))).reads tokens.old) result tokens.new }
+{
+    expect(tokens, last)?;
+    Ok(invoke(call))
 }
 
 fn call_to<F, G: Fn(Global, &mut Cursor<Token>) -> Result<Measured, Or<Fault>>>(
     here: &Place<F, G>,
     alloc: Global,
     tokens: &mut Cursor<Token>,
-    end: u16,
+    last: u16,
     call: Measured,
 ) -> Result<Action, Or<Fault>>
     requires whole_callable { G.IsAlwaysCallable here.now.whole }
     requires whole_exact { (alloc : _) (tokens : _) (result : _) (after : _) → G.post here.now.whole alloc tokens result after → WholeRead here.now.level.at tokens.now result after.now }
-    ensures { Reads ((action_to_of here.now.level.at.left (inner_of here.now.level.at) end true call).reads tokens.old) result tokens.new }
+    ensures { Reads ((with_end last (called_of here.now.level.at.left (inner_of here.now.level.at) call)).reads tokens.old) result tokens.new }
 {
-    let action = called(here, alloc, tokens, call)?;
-    ended(tokens, end, action)
-}
-
-fn place_to<F, G: Fn(Global, &mut Cursor<Token>) -> Result<Measured, Or<Fault>>>(
-    here: &Place<F, G>,
-    alloc: Global,
-    tokens: &mut Cursor<Token>,
-    end: u16,
-    place: Measured,
-) -> Result<Action, Or<Fault>>
-    requires whole_callable { G.IsAlwaysCallable here.now.whole }
-    requires whole_exact { (alloc : _) (tokens : _) (result : _) (after : _) → G.post here.now.whole alloc tokens result after → WholeRead here.now.level.at tokens.now result after.now }
-    ensures { Reads ((action_to_of here.now.level.at.left (inner_of here.now.level.at) end false place).reads tokens.old) result tokens.new }
-{
-    let action = set_to(here, alloc, tokens, place)?;
-    ended(tokens, end, action)
+    if begins(tokens, &ASSIGNMENT) {
+        return place_to(here, alloc, tokens, last, call);
+    }
+    invoked(tokens, last, call)
 }
 
 /// What is done to a place or with a call, and the sign behind it.
@@ -83,17 +105,17 @@ pub fn action_to<F, G: Fn(Global, &mut Cursor<Token>) -> Result<Measured, Or<Fau
     here: &Place<F, G>,
     alloc: Global,
     tokens: &mut Cursor<Token>,
-    end: u16,
+    last: u16,
     place: Measured,
 ) -> Result<Action, Or<Fault>>
     requires whole_callable { G.IsAlwaysCallable here.now.whole }
     requires whole_exact { (alloc : _) (tokens : _) (result : _) (after : _) → G.post here.now.whole alloc tokens result after → WholeRead here.now.level.at tokens.now result after.now }
-    ensures { Reads ((action_to_of here.now.level.at.left (inner_of here.now.level.at) end place.is_call place).reads tokens.old) result tokens.new }
+    ensures { Reads ((action_to_of here.now.level.at.left (inner_of here.now.level.at) last place.is_call place).reads tokens.old) result tokens.new }
 {
     if place.is_call {
-        return call_to(here, alloc, tokens, end, place);
+        return call_to(here, alloc, tokens, last, place);
     }
-    place_to(here, alloc, tokens, end, place)
+    place_to(here, alloc, tokens, last, place)
 }
 
 fn act_with<F, G: Fn(Global, &mut Cursor<Token>) -> Result<Measured, Or<Fault>>>(
