@@ -1,11 +1,13 @@
 -- The profile as far as rows alone decide it: which failure comes first.
-use Rattle.std.specs.Prelude.{◌≡◌, ◌⊎◌, ℕ, ◌+◌, ◌*◌, ◌^◌, ◌<◌, Ok, Err}
-use Rattle.dc_causes.specs.Step.{Step, Told}
+use Rattle.std.specs.Prelude.{◌≡◌, ◌⊎◌, ℕ, ◌+◌, ◌*◌, ◌^◌, ◌<◌, ◌≤◌, Ok, Err}
+use Rattle.dc_causes.specs.Step.{Step, Test, Told}
 use Rattle.cli_conditions.specs.declared.condition.Condition.{Condition}
 use Rattle.cli_conditions.specs.declared.condition.Condition.TheVariants as conditions
 use Rattle.cli_conditions.specs.declared.unmet.Unmet.{Unmet}
 use Rattle.cli_conditions.specs.Conditions.{number_of as place_of}
 use Rattle.cli_metadata.specs.declared.tables.Table.{Table}
+use Rattle.cli_metadata.specs.declared.tables.Table.TheVariants as tables
+use Rattle.cli_metadata.specs.Metadata.{Contents, rows_of}
 use Rattle.cli_metadata.specs.Numbers.{number_of}
 use Rattle.cli_profile.specs.Rows.{Subject, IsGeneric, IsEvent, IsNative, IsModules, IsSecurity, IsMarshal, IsLayout, IsFieldData, IsTypeSpec, IsModuleMember}
 
@@ -56,3 +58,7 @@ unmet_of f = record { condition = f.condition; token = record { 0 = number_of f.
 -- each row of the tables meets the conditions of the profile that are asked of rows, or this is the first that doesn't
 abbrev pub RowsInProfile : Subject → Step (Unit {0}) Unmet
 RowsInProfile s = Told unmet_of (FailsFirst s)
+
+-- there are at most 65,535 methods, or the fault is the first one behind them
+abbrev pub HasFewMethods : Contents → Step (Unit {0}) Unmet
+HasFewMethods m = Test (rows_of m tables.MethodDef ≤ 65535) (unmet_of (record { condition = conditions.Methods; table = tables.MethodDef; row = 65536 }))

@@ -1,5 +1,6 @@
 //! The profile as far as the rows of metadata decide it: what an assembly may not have, told by the first row that it has
-//! all the same (ECMA-335 II.22). No body and no signature of a member is looked at.
+//! all the same (ECMA-335 II.22). No body and no signature of a member is looked at. The conditions from the first to the
+//! tenth are asked by [`check_rows`], the count of methods by [`check_methods`].
 //!
 //! ```text
 //! Field, MethodDef        a field or a method outside of types · a method that isn't plain IL
@@ -14,6 +15,7 @@
 #![tactic(auto)]
 
 mod check;
+mod count;
 mod delegates;
 mod judged;
 mod laws;
@@ -23,4 +25,5 @@ mod strings;
 mod tests;
 
 pub use check::check_rows;
+pub use count::check_methods;
 pub use laws::one_first_failure;

@@ -1,6 +1,8 @@
 // Metadata made of rows, which meet the conditions or don't.
 
-use crate::{check_rows, one_first_failure};
+ghost use Rattle.std.specs.Prelude.{◌≤◌};
+
+use crate::{check_methods, check_rows, one_first_failure};
 use cli_conditions::{Condition, Unmet};
 use cli_lists::{Lists, rows_fit_tokens};
 use cli_metadata::{Metadata, Table};
@@ -84,10 +86,7 @@ fn unmet(
     assert!(rt; rows_fit_tokens(&metadata));
     assert!(rt; metadata.rows(Table::TypeSpec) < 0x100_0000);
     let lists = Lists::of(alloc, &metadata)?;
-    match check_rows(&metadata, &lists, reached) {
-        Ok(()) => Ok(None),
-        Err(unmet) => Ok(Some(unmet)),
-    }
+    Ok(check_rows(&metadata, &lists, reached).err())
 }
 
 const ZERO: [u8; 22] = [0; 22];
@@ -370,5 +369,38 @@ fn first_failure_counts(rt: HostRuntime) -> Result<(), Fail> {
         assert_eq!(rt; unmet(&rt, alloc, tables, &[])?, wanted);
     }
     one_first_failure();
+    Ok(())
+}
+
+// Metadata with so many methods alone.
+fn with_methods(alloc: Global, count: u32) -> Result<Vec<u8>, NoMemory>
+    requires { count ≤ 65536 }
+{
+    let mut bytes = Vec::from_slice(alloc, &HEAD)?;
+    let [a, b, c, d] = u32::to_le_bytes(28 + 14 * count);
+    bytes[28] = a;
+    bytes[29] = b;
+    bytes[30] = c;
+    bytes[31] = d;
+    let mask: u64 = 1 << 0x06;
+    bytes.extend_from_slice(&mask.to_le_bytes())?;
+    bytes.extend_from_slice(&[0; 8])?;
+    bytes.extend_from_slice(&count.to_le_bytes())?;
+    for _ in 0..14 * count {
+        bytes.push(0)?;
+    }
+    Ok(bytes)
+}
+
+#[test]
+fn methods_are_counted(rt: HostRuntime) -> Result<(), Fail> {
+    let behind = due(Condition::Methods, 0x0601_0000);
+    for (count, wanted) in [(65_535, None), (65_536, behind)] {
+        let bytes = with_methods(rt.alloc(), count)?;
+        assert!(rt; bytes.len() < 0x10_0000);
+        let metadata = Metadata::of(bytes.as_slice())?;
+        assert_eq!(rt; metadata.rows(Table::MethodDef), count);
+        assert!(rt; check_methods(&metadata).err() == wanted);
+    }
     Ok(())
 }
