@@ -1,5 +1,5 @@
 -- Modifiers, results and parameters of declarations are written well.
-use Rattle.std.proofs.Common.{◌≡◌, ℕ, ◌<◌, Bool, true, false, List, [], ◌∷◌, ◌++◌, All, Option, Some, None, refl, sym, ◌∙◌, ap, subst, codes, arith}
+use Rattle.std.proofs.Common.{◌≡◌, ℕ, ◌<◌, Bool, true, false, List, [], ◌∷◌, All, Option, Some, None, refl, sym, ◌∙◌, ap, subst, codes, arith}
 use Rattle.std.specs.Prelude.{◌&&◌, ◌||◌, ◌==◌}
 use Rattle.std.specs.Char.{is_ascii_alphabetic}
 use Rattle.std.specs.List.{list_all}
@@ -15,16 +15,14 @@ use Rattle.cs_tree.specs.declared.members.Access.TheVariants.{Public, Private, P
 use Rattle.cs_tree.specs.declared.members.Mods.{Mods}
 use Rattle.cs_tree.specs.declared.members.Explicit.{Explicit}
 use Rattle.cs_layout.specs.Pieces.{Piece, gap, token}
-use Rattle.cs_layout.specs.declared.fixed.Fixed.TheVariants as part
-use Rattle.cs_layout.specs.Words as layout
 use Rattle.cs_layout.specs.Words.{fixed}
 use Rattle.cs_unit_layout.specs.declared.headwords.Headword.{Headword}
 use Rattle.cs_unit_layout.specs.declared.headwords.Headword.TheVariants as begin
 use Rattle.cs_unit_layout.specs.Heads.{headword, access_pieces, flag_pieces, mods_pieces, result_pieces, explicit_pieces, params_pieces}
-use Rattle.cs_wellformed.specs.Words.{IsName, IsType, IsParam}
+use Rattle.cs_wellformed.specs.Words.{IsName, IsParam}
 use Rattle.cs_roundtrip_members.specs.Members.{IsResult, IsExplicit}
-use Rattle.cs_roundtrip_written.specs.Sound.{Before, Sound, Is, Free, Closed}
-use Rattle.cs_roundtrip_written.proofs.Sounds.{sound_then, sound_none, sound_where, spaced, takes_free, free_is, is_none, free_dot, puts, puts_sign, puts_keyword}
+use Rattle.cs_roundtrip_written.specs.Sound.{Before, Sound, Free, Closed}
+use Rattle.cs_roundtrip_written.proofs.Sounds.{sound_then, sound_none, sound_where, spaced, takes_free, free_is, is_none, free_dot, puts_sign, puts_keyword}
 use Rattle.cs_roundtrip_written.proofs.Words.{letter, sound_path, sound_global, sound_type, sound_params}
 use Rattle.cs_roundtrip_written.proofs.Forms.{behind_open, closing}
 use Rattle.cs_roundtrip_texts.proofs.Spelled.{and_both}

@@ -2,9 +2,8 @@
 use Rattle.std.proofs.Common.{◌≡◌, ℕ, Bool, true, false, cond, List, [], ◌∷◌, ◌++◌, Option, Some, None, refl, sym, ◌∙◌, ap, subst}
 use Rattle.std.specs.Prelude.{not, ◌&&◌, ◌==◌}
 use Rattle.std.specs.List.{flat_map, list_all}
-use Rattle.std.specs.Str.{all_scalars}
 use Rattle.std.proofs.Math.Utf8.{encodes}
-use Rattle.std.proofs.lemmas.List.{append-nil, append_assoc}
+use Rattle.std.proofs.lemmas.List.{append_assoc}
 use Rattle.std.proofs.lemmas.List.Folds.{list_all-append}
 use Rattle.std.proofs.lemmas.Str.{encodes-append}
 use Rattle.std.proofs.lemmas.Bool.Decides.{nat_tests}
@@ -12,7 +11,7 @@ use Rattle.std.proofs.Common.{arith}
 use Rattle.cs_token.specs.Words.{is_blank, begins_comment}
 use Rattle.cs_token.specs.declared.lexeme.Lexeme.{Lexeme}
 use Rattle.cs_written.specs.Spelled.{spelled, IsSpellable}
-use Rattle.cs_written.specs.Written.{is_gap, needs_gap, is_apart, written}
+use Rattle.cs_written.specs.Written.{is_gap, is_apart, written}
 use Rattle.cs_written.proofs.Basics.{both_true}
 use Rattle.cs_layout.specs.Pieces.{Piece, gap, token, piece_bytes, tokens_behind, last_behind}
 use Rattle.cs_roundtrip_written.specs.Sound.{Before, fits, after_gap, after, Well, Sound, Is}

@@ -18,19 +18,19 @@ use Rattle.cs_tree.specs.declared.members.Member.TheVariants as member
 use Rattle.cs_layout.specs.Pieces.{Piece, gap, token}
 use Rattle.cs_layout.specs.declared.fixed.Fixed.TheVariants as part
 use Rattle.cs_layout.specs.Words.{fixed, name}
-use Rattle.cs_layout.specs.Layout.{form_shown, line, indent, deeper}
+use Rattle.cs_layout.specs.Layout.{line, indent, deeper}
 use Rattle.cs_unit_layout.specs.declared.headwords.Headword.{Headword}
 use Rattle.cs_unit_layout.specs.declared.headwords.Headword.TheVariants as begin
-use Rattle.cs_unit_layout.specs.Heads.{headword, mods_pieces, params_pieces}
-use Rattle.cs_unit_layout.specs.Members.{body_behind, block_behind, bodied, initial_value, initial_pieces, method_head, maker_head, initializer_head, accessor_laid, accessors_laid, property_head, indexer_head, operator_head, field_laid, constant_laid, constructor_laid, initializer_laid, property_laid, member_laid}
+use Rattle.cs_unit_layout.specs.Heads.{headword, mods_pieces}
+use Rattle.cs_unit_layout.specs.Members.{body_behind, block_behind, bodied, initial_value, initial_pieces, method_head, maker_head, accessor_laid, accessors_laid, property_head, indexer_head, operator_head, field_laid, constant_laid, constructor_laid, initializer_laid, member_laid}
 use Rattle.cs_wellformed.specs.Words.{IsName, IsType, IsParam}
 use Rattle.cs_wellformed.specs.WellFormed.{IsWellFormedForm, IsWellFormedBlock}
 use Rattle.cs_roundtrip_members.specs.Members.{IsResult, IsFirstValue, IsBody, IsExplicit, IsAccessor, IsInitial, IsWellFormedMember}
-use Rattle.cs_roundtrip_written.specs.Sound.{Before, Sound, Is, Free, Closed, FormSound}
+use Rattle.cs_roundtrip_written.specs.Sound.{Before, Sound, Is, Free, Closed}
 use Rattle.cs_roundtrip_written.proofs.Sounds.{sound_then, sound_none, sound_where, spaced, indented, closed_word, closed_free, takes_free, free_is, closed_is, is_none, free_index, puts, puts_sign, puts_keyword, sound_line}
 use Rattle.cs_roundtrip_written.proofs.Words.{sound_word, sound_name}
 use Rattle.cs_roundtrip_written.proofs.Forms.{behind_open, closing, sound_arguments, sound_equals, sound_sign_blank}
-use Rattle.cs_roundtrip_written.proofs.Statements.{Any, starts, ends_with, sound_brace, sound_braced, sound_typed, deeper_blank}
+use Rattle.cs_roundtrip_written.proofs.Statements.{starts, ends_with, sound_brace, sound_braced, sound_typed, deeper_blank}
 use Rattle.cs_roundtrip_written.proofs.Whole.{form_sound, block_sound, args_sound}
 use Rattle.cs_roundtrip_texts.specs.Notes.{member_notes, AreTexts}
 use Rattle.cs_roundtrip_texts.specs.Lines.{Lines}

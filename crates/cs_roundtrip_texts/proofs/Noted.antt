@@ -1,5 +1,5 @@
 -- A note is in ASCII and stays on its line.
-use Rattle.std.proofs.Common.{◌≡◌, ◌⊎◌, inl, inr, ℕ, ◌+◌, ◌-◌, ◌<◌, ◌≤◌, ◌^◌, ◌/◌, ◌%◌, Bool, true, false, List, [], ◌∷◌, ◌++◌, Option, Some, None, refl, ◌∙◌, ap, arith}
+use Rattle.std.proofs.Common.{◌≡◌, inl, inr, ℕ, ◌+◌, ◌-◌, ◌<◌, ◌^◌, ◌/◌, ◌%◌, true, List, [], ◌∷◌, ◌++◌, Option, Some, None, refl, ◌∙◌, arith}
 use Rattle.std.specs.Prelude.{IsUtf8, ◌&&◌, nat_lt, nat_le, codes}
 use Rattle.std.specs.List.{list_all, flat_map}
 use Rattle.std.specs.Char.{digit_char}
@@ -10,9 +10,7 @@ use Rattle.std.proofs.lemmas.List.Folds.{list_all-append}
 use Rattle.std.proofs.lemmas.Str.{scalars-chars}
 use Rattle.std.proofs.lemmas.Bool.Decides.{nat_tests}
 use Rattle.cs_token.specs.Words.{is_blank}
-use Rattle.cs_written.specs.Spelled.{hex_spelled}
 use Rattle.cs_written.proofs.Basics.{split, both_true}
-use Rattle.cs_layout.specs.declared.fixed.Fixed.TheVariants as part
 use Rattle.cs_layout.specs.Words.{fixed}
 use Rattle.cs_layout.specs.Layout.{indent}
 use Rattle.cs_unit_layout.specs.Heads.{unit_noted, char_noted, noted, name_note, note_pieces, assembly_note, assembly_pieces}

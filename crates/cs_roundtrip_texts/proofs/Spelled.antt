@@ -1,6 +1,6 @@
 -- Tokens that can be written are written in characters, and ASCII is.
 use Rattle.std.proofs.Common.{◌≡◌, ℕ, ◌<◌, Bool, true, false, List, [], ◌∷◌, ◌++◌, refl, ◌∙◌, ap, arith}
-use Rattle.std.specs.Prelude.{IsUtf8, cond, ◌&&◌, nat_lt, slice_index_or}
+use Rattle.std.specs.Prelude.{IsUtf8, cond, ◌&&◌, slice_index_or}
 use Rattle.std.specs.List.{list_all, flat_map}
 use Rattle.std.specs.Fmt.{decimal}
 use Rattle.std.specs.Str.{chars, all_scalars}

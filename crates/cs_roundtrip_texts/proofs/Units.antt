@@ -22,22 +22,19 @@ use Rattle.cs_tree.specs.declared.declarations.Decl.TheFolds.{fold-roll-Decl, fo
 use Rattle.cs_tree.specs.declared.declarations.Space.{Space}
 use Rattle.cs_tree.specs.declared.declarations.Space.TheVariants as space
 use Rattle.cs_tree.specs.declared.declarations.Unit.{Unit as WholeText}
-use Rattle.cs_layout.specs.Pieces.{Piece, gap, token}
-use Rattle.cs_layout.specs.declared.fixed.Fixed.TheVariants as part
 use Rattle.cs_layout.specs.Words as layout
 use Rattle.cs_layout.specs.Words.{fixed, name, path}
 use Rattle.cs_layout.specs.Layout.{Laid, line, deeper}
 use Rattle.cs_unit_layout.specs.declared.headwords.Headword.TheVariants as begin
-use Rattle.cs_unit_layout.specs.Heads.{headword, flag_pieces, mods_pieces, kind_pieces, bases_pieces, note_pieces}
+use Rattle.cs_unit_layout.specs.Heads.{headword, flag_pieces, kind_pieces, bases_pieces}
 use Rattle.cs_unit_layout.specs.Units.{between, each, enumerator_laid, body_head, enum_head, delegate_head, decl_laid, item_laid, space_laid, unit_laid}
-use Rattle.cs_unit_layout.specs.Members.{member_laid}
 use Rattle.cs_wellformed.specs.Words.{IsName, IsPath, IsType, IsParam}
 use Rattle.cs_roundtrip_types.proofs.Types.{all_first, all_others}
 use Rattle.cs_roundtrip_members.specs.Members.{IsResult}
 use Rattle.cs_roundtrip_units.specs.Units.{IsEnumerator, IsDecl, AreItems, IsWellFormedDecl, IsWellFormedSpace, IsWellFormedUnit}
 use Rattle.cs_roundtrip_units.proofs.Decls.{shown_Body, shown_Enum, shown_Delegate, shown_member, shown_type}
 use Rattle.cs_roundtrip_written.specs.Sound.{Before, fits, Sound, Is, Free, Closed}
-use Rattle.cs_roundtrip_written.proofs.Sounds.{sound_then, sound_none, sound_where, spaced, takes_free, closed_word, closed_is, puts, puts_sign, sound_line}
+use Rattle.cs_roundtrip_written.proofs.Sounds.{sound_then, sound_none, sound_where, takes_free, closed_word, closed_is, puts, puts_sign, sound_line}
 use Rattle.cs_roundtrip_written.proofs.Words.{sound_type, sound_path, sound_comma}
 use Rattle.cs_roundtrip_written.proofs.Forms.{sound_sign_blank}
 use Rattle.cs_roundtrip_written.proofs.Statements.{starts, ends_with, sound_brace, deeper_blank}

@@ -1,12 +1,10 @@
 -- Members and whole texts are written well, and what is printed of them is read back: the laws.
 use Rattle.std.proofs.Common.{◌≡◌, ℕ, ◌+◌, true, List, [], ◌∷◌, Option, Some, None, refl, sym, ◌∙◌, ap, subst}
-use Rattle.std.specs.Prelude.{IsUtf8, Bool, Result, Ok, map}
-use Rattle.std.specs.List.{flat_map}
-use Rattle.std.specs.Str.{chars, all_scalars}
+use Rattle.std.specs.Prelude.{map}
+use Rattle.std.specs.Str.{chars}
 use Rattle.std.proofs.Math.Utf8.{encodes}
 use Rattle.std.proofs.lemmas.List.{append-nil}
 use Rattle.std.proofs.lemmas.Str.{chars-encodes}
-use Rattle.cs_token.specs.declared.tokens.Token.{Token}
 use Rattle.cs_token.specs.Placed.{Placed}
 use Rattle.cs_token.specs.declared.lexeme.Lexeme.{Lexeme}
 use Rattle.cs_tree.specs.BareUnits.{bare_unit}
@@ -14,7 +12,7 @@ use Rattle.cs_grammar.specs.Grammar.{Grammar}
 use Rattle.cs_units.specs.Declarations.{unit_at, item_at, inside}
 use Rattle.cs_written.specs.Written.{may_end, written, AreLexemes}
 use Rattle.cs_written.proofs.Apart.{read_from}
-use Rattle.cs_layout.specs.Pieces.{Piece, piece_bytes, tokens, last, tokens_behind, last_behind}
+use Rattle.cs_layout.specs.Pieces.{Piece, tokens, last}
 use Rattle.cs_unit_layout.specs.Members.{member_laid}
 use Rattle.cs_unit_layout.specs.Units.{unit_laid}
 use Rattle.cs_roundtrip_types.specs.Laws.{IsReadBack}
