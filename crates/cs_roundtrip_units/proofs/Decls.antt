@@ -52,7 +52,7 @@ use Rattle.cs_roundtrip_members.proofs.Members.{behind_note, name_same}
 abbrev pub bare_item : Item → Item
 bare_item = fold-Item Decl Item bare.decl_layer bare.item_layer
 
-shown_Body : (s : Spot) (note : Option (List ℕ)) (mods : Mods) (k : Kind) (x : Name) (ts : List TypeForm) (items : List Item)
+pub shown_Body : (s : Spot) (note : Option (List ℕ)) (mods : Mods) (k : Kind) (x : Name) (ts : List TypeForm) (items : List Item)
     → decl_laid (decl.Body s note mods k x ts items) ≡ decl_layer (Decl-F.Body s note mods k x ts (map item_laid items))
 shown_Body s note mods k x ts items = ap decl_laid (sym (decl.rolls-Body s note mods k x ts items)) ∙ fold-roll-Decl Laid Laid decl_layer item_layer (Decl-F.Body s note mods k x ts items)
 

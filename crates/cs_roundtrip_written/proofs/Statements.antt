@@ -40,7 +40,7 @@ abbrev pub Any : Before → Type 0
 Any s = Unit {0}
 
 -- the start of a line
-starts : {Post : Before → Type 0} {ps : List Piece} → Sound Free ps Post → Sound (Is None) ps Post
+pub starts : {Post : Before → Type 0} {ps : List Piece} → Sound Free ps Post → Sound (Is None) ps Post
 starts x = sound_where is_none x
 
 -- a keyword, a blank, and more
@@ -51,7 +51,7 @@ word_blank k low x = puts_keyword k low (λ s e. is_none s e (lexeme.Keyword k))
 word_paren : {Post : Before → Type 0} {ps : List Piece} (k : ℕ) → k < 77 → Sound Free ps Post → Sound (Is None) (token (lexeme.Keyword k) ∷ gap (32 ∷ []) ∷ token (lexeme.Sign 2) ∷ ps) Post
 word_paren k low x = word_blank k low (puts_sign 2 (omega arith) (λ s f. f (lexeme.Sign 2)) (behind_open x))
 
-ends_with : (k : ℕ) → k < 40 → Sound Closed (token (lexeme.Sign k) ∷ []) Any
+pub ends_with : (k : ℕ) → k < 40 → Sound Closed (token (lexeme.Sign k) ∷ []) Any
 ends_with k low = puts_sign k low (λ s c. c k) (sound_none (λ s e. tt))
 
 -- a keyword alone, and one with a sign at the end
@@ -67,7 +67,7 @@ module _ (margin : List ℕ) (blank : list_all is_blank margin ≡ true) where
   pub deeper_blank : list_all is_blank (deeper margin) ≡ true
   deeper_blank = blanks_append margin (codes "    ") blank refl
 
-  sound_brace : (k : ℕ) → k < 40 → Sound (Is None) (line margin (token (lexeme.Sign k) ∷ [])) (Is None)
+  pub sound_brace : (k : ℕ) → k < 40 → Sound (Is None) (line margin (token (lexeme.Sign k) ∷ [])) (Is None)
   sound_brace k low = sound_line margin blank (puts_sign k low (λ s e. is_none s e (lexeme.Sign k)) (sound_none {Post = Any} (λ s e. tt)))
 
   pub sound_braced : (b : Block) → Sound (Is None) (block_laid b (deeper margin)) (Is None) → Sound (Is None) (laid.braced (block_laid b) margin) (Is None)
@@ -79,7 +79,7 @@ module _ (margin : List ℕ) (blank : list_all is_blank margin ≡ true) where
       → Sound (Is None) (line margin (token (lexeme.Keyword k) ∷ gap (32 ∷ []) ∷ token (lexeme.Sign 2) ∷ ((form_shown a).pieces margin ++ token (lexeme.Sign 3) ∷ []))) (Is None)
   sound_tested k a low x = sound_line margin blank (word_paren k low (sound_then x.any closing))
 
-  sound_typed : (limit : ℕ) (t : TypeForm) (x : Name) → IsType limit t → IsName x.text → Sound Free (typed t x) Closed
+  pub sound_typed : (limit : ℕ) (t : TypeForm) (x : Name) → IsType limit t → IsName x.text → Sound Free (typed t x) Closed
   sound_typed limit t x h q = sound_then (sound_where (λ s f. takes_free false s f) (sound_type false limit t h)) (sound_blank_name x.text q)
 
   -- actions

@@ -15,7 +15,7 @@ pub blanks_append : (g h : List ℕ) → list_all is_blank g ≡ true → list_a
 blanks_append [] h a b = b
 blanks_append (c ∷ g) h a b = let p = both (is_blank c) (list_all is_blank g) a in ap (λ z. z && list_all is_blank (g ++ h)) p.0 ∙ blanks_append g h p.1 b
 
-blanks_gap : (g : List ℕ) → list_all is_blank g ≡ true → is_gap false g ≡ true
+pub blanks_gap : (g : List ℕ) → list_all is_blank g ≡ true → is_gap false g ≡ true
 blanks_gap [] h = refl
 blanks_gap (c ∷ g) h =
     let p = both (is_blank c) (list_all is_blank g) h in

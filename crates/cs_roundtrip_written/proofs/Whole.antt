@@ -95,7 +95,7 @@ module _ (levels limit : ℕ) where
         at_shown margin _ (shown_Conditional s a l r)
         (sound_low 0 (ap (λ z. z.level) (shown_Conditional s a l r)) (omega arith) (sound_conditional a l r margin (form_sound x margin blank) (form_sound y margin blank) (form_sound z margin blank)))
 
-    args_sound : {args : List Arg} {j c : ℕ} → AreArgs levels limit args j c → (margin : List ℕ) → Blank margin → ArgsSound args margin
+    pub args_sound : {args : List Arg} {j c : ℕ} → AreArgs levels limit args j c → (margin : List ℕ) → Blank margin → ArgsSound args margin
     args_sound no_args margin blank = args_none margin
     args_sound (more_args w a args h j b c x y) margin blank = args_more w a args margin (form_sound x margin blank) (args_sound y margin blank)
 

@@ -37,7 +37,7 @@ unfolding name
 sound_name m text h = sound_word m (lexeme.Name text) h refl
 
 -- the name `global`
-letter : (c : ℕ) (cs : List ℕ) → c < 128 → (is_ascii_alphanumeric c || c == 95) ≡ true → list_all is_xid_continue cs ≡ true → list_all is_xid_continue (c ∷ cs) ≡ true
+pub letter : (c : ℕ) (cs : List ℕ) → c < 128 → (is_ascii_alphanumeric c || c == 95) ≡ true → list_all is_xid_continue cs ≡ true → list_all is_xid_continue (c ∷ cs) ≡ true
 letter c cs l e h = ap (λ z. z && list_all is_xid_continue cs) (is_xid_continue-ascii c l ∙ e) ∙ h
 
 legal_letters : is_legal (codes "global") ≡ true
