@@ -1,5 +1,5 @@
 -- The text of a flat body is one list of tokens, which are one tree, which has the body.
-use Rattle.std.proofs.Common.{◌≡◌, ℕ, ◌+◌, ◌^◌, ◌<◌, ◌≤◌, true, Bool, List, [], length, Some, None, Result, Ok, refl, sym, ap, ◌∙◌, subst, arith}
+use Rattle.std.proofs.Common.{◌≡◌, ℕ, ◌^◌, ◌<◌, ◌≤◌, List, [], length, codes, Some, None, Ok, refl, sym, ap, ◌∙◌, subst, arith}
 use Rattle.std.specs.Prelude.{IsUtf8}
 use Rattle.std.specs.List.{flat_map}
 use Rattle.std.specs.Str.{chars}
@@ -11,13 +11,14 @@ use Rattle.cs_lex.specs.Lexed.{HasOneAnswer}
 use Rattle.cs_tree.specs.declared.members.Member.{Member}
 use Rattle.cs_tree.specs.declared.declarations.Item.{Item}
 use Rattle.cs_tree.specs.declared.declarations.Item.TheVariants as item
-use Rattle.cs_units.specs.Declarations.{item_at, inside}
+use Rattle.cs_tree.specs.BareUnits.{bare_member}
 use Rattle.cs_written.specs.Written.{written}
 use Rattle.cs_written.proofs.Apart.{read_from}
 use Rattle.cs_layout.specs.Pieces.{Piece, piece_bytes, tokens, last}
 use Rattle.cs_layout.proofs.Written.{bytes_from}
 use Rattle.cs_unit_layout.specs.Members.{member_laid}
-use Rattle.cs_roundtrip_members.specs.Laws.{IsMemberAs, MembersAreReadBack}
+use Rattle.cs_roundtrip_members.specs.Members.{IsWellFormedMember}
+use Rattle.cs_roundtrip_members.specs.Laws.{MembersAreReadBack}
 use Rattle.cs_roundtrip_types.specs.Laws.{AreTokensOf}
 use Rattle.cs_roundtrip_written.specs.Sound.{Sound, Is}
 use Rattle.cs_roundtrip_written.proofs.Texts.{gaps_are_blank, written_from}
@@ -61,28 +62,43 @@ pub record TextReads (text : List ℕ) (stmts : List Stmt) : Type 0 where
   pub tokens : List Token
   pub lexed : HasOneTokenList text tokens
   pub tree : Member
-  pub parsed : HasOneTree tokens tree
+  pub parsed : HasOneTree 400 33 200 200 tokens tree
   pub elaborated : body_of tree ≡ Some (lone_body Local stmts)
 
--- what an item that is the only one is equal to
+-- a well formed member's tokens are it and nothing else
+pub record IsReadAs (levels ranks blocks nesting : ℕ) (m : Member) (tokens : List Token) : Type 0 where
+  pub tree : Member
+  pub parsed : HasOneTree levels ranks blocks nesting tokens tree
+  pub same : bare_member tree ≡ bare_member m
+
 only_one : (i j : Item) → Ok i ≡ Ok j → i ≡ j
 only_one i j e = cc
+
+is_read_as : MembersAreReadBack → (levels ranks blocks nesting : ℕ) (m : Member) → 0 < ranks → 0 < blocks → IsWellFormedMember levels ranks blocks m
+    → (ts : List Token) → AreTokensOf (member_laid m []) ts → IsReadAs levels ranks blocks nesting m ts
+is_read_as law levels ranks blocks nesting m some more well ts those =
+    let read = law levels ranks blocks nesting m [] some more well ts those in
+    let as = read.1 in
+    record {
+      tree = as.0;
+      parsed = record {
+        is = subst (IsItem levels ranks blocks nesting ts) as.1 read.2;
+        only = λ other d. only_one other (item.Member as.0) (read.3 (Ok other) d ∙ ap Ok as.1);
+      };
+      same = as.2;
+    }
 
 pub flat_text_reads : TextLaws → (role : Role) (stmts : List Stmt) → AreFlat 4 stmts → length stmts ≤ 2 ^ 32 → TextReads (text_of (lone_body role stmts)) stmts
 flat_text_reads laws role stmts flat h =
     let m = member_of (lone_body role stmts) in
     let ps = member_laid m [] in
     let s = member_stands role stmts flat h in
-    let text = token_text ps (sound_method _ four (block (flat_map syntax_of stmts)) 1 s.result s.name s.params s.body) in
-    let read = laws.members 400 33 200 200 m [] (omega arith) (omega arith) s.well text.tokens text.those in
-    let as = read.1 in
+    let text = token_text ps (sound_method (codes "M") four (block (flat_map syntax_of stmts)) 1 s.result s.name s.params s.body) in
+    let read = is_read_as laws.members 400 33 200 200 m (omega arith) (omega arith) s.well text.tokens text.those in
     record {
       tokens = text.tokens;
       lexed = record { utf8 = text.utf8; are = text.are; only = λ others a. laws.lexed.one_list (chars (flat_map piece_bytes ps)) others text.tokens a text.are };
-      tree = as.0;
-      parsed = record {
-        is = subst (IsItem text.tokens) as.1 read.2.0;
-        only = λ other d. only_one other (item.Member as.0) (read.2.1 (Ok other) d ∙ ap Ok as.1);
-      };
-      elaborated = ap bare_body as.2 ∙ s.elaborated;
+      tree = read.tree;
+      parsed = read.parsed;
+      elaborated = ap bare_body read.same ∙ s.elaborated;
     }

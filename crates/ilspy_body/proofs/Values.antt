@@ -18,7 +18,7 @@ use Rattle.cs_body.specs.declared.tree.Expr.{Expr}
 use Rattle.cs_body.specs.declared.tree.Expr.TheVariants as expr
 use Rattle.cs_meaning.specs.Typed.{IsArithmetic, add, sub, mul}
 use Rattle.ilspy_body.specs.Tree.{name_of, number_form, sign_form, form_of}
-use Rattle.ilspy_body.specs.Elaborate.{Scope, Meant, with_operands, operator_meant, meant_of}
+use Rattle.ilspy_body.specs.Elaborate.{Scope, Meant, name_meant, operator_meant, meant_of}
 use Rattle.ilspy_body.proofs.FlatShape.{IsFlatForm, number, variable, operator}
 use Rattle.ilspy_body.proofs.Forms.{form_of_int, form_of_var, form_of_operator, meant_number, meant_name, meant_minus, meant_operator}
 use Rattle.ilspy_body.proofs.Names.{names, name_of_is_name, var_named_of}
@@ -57,7 +57,7 @@ number_stands scope n h = record {
 -- a number below 0
 below_zero_stands : (scope : Scope) (n : ℕ) → n < 2 ^ 31 → IsMeant scope (form.Unary nowhere Minus (number_form (suc n))) (expr.Literal (Int (negsuc n)))
 below_zero_stands scope n h =
-    let few = enclosed_few _ 0 in
+    let few : levels_signed Minus (number_form (suc n)) 0 ≤ 0 + 1 = enclosed_few _ 0 in
     record {
       well = value (form.Unary nowhere Minus (number_form (suc n))) (levels_signed Minus (number_form (suc n)) 0 + 1) 0
           (unary nowhere Minus (number_form (suc n)) 0 0 (literal nowhere (Number (suc n) Plain) (omega arith))) (omega (arith, few));
@@ -75,7 +75,7 @@ int_stands scope (negsuc n) h = subst (λ f. IsMeant scope f (expr.Literal (Int 
 -- a variable
 name_stands : (next x : ℕ) → next < 2 ^ 64 → x < next → Stands (names next) (form.Name nowhere (name_of x)) (expr.Var x)
 name_stands next x h k =
-    let same : meant_of (bare_form (form.Name nowhere (name_of x))) ≡ _ = ap meant_of (bare_Name nowhere (name_of x)) ∙ meant_name nowhere (name_of x) in
+    let same : meant_of (bare_form (form.Name nowhere (name_of x))) ≡ name_meant (name_of x) = ap meant_of (bare_Name nowhere (name_of x)) ∙ meant_name nowhere (name_of x) in
     record {
       levels = 0;
       well = named nowhere (name_of x) (name_of_is_name x (omega arith));
@@ -103,8 +103,8 @@ operator_stands scope o d e is l r =
     let s = sign_form o in
     let f = form_of d in
     let g = form_of e in
-    let left = enclosed_few _ l.levels in
-    let right = enclosed_few _ r.levels in
+    let left : levels_at_least (binary_level s) f l.levels ≤ l.levels + 1 = enclosed_few _ l.levels in
+    let right : levels_at_least (binary_level s + 1) g r.levels ≤ r.levels + 1 = enclosed_few _ r.levels in
     let few : max (levels_at_least (binary_level s) f l.levels) (levels_at_least (binary_level s + 1) g r.levels) ≤ 3 = max-le (omega (arith, left, l.few)) (omega (arith, right, r.few)) in
     let same = ap meant_of (bare_Binary nowhere s f g) ∙ meant_operator nowhere s (bare_form f) (bare_form g) in
     subst (λ t. IsMeant scope t (expr.Binary o false d e)) (sym (form_of_operator o d e))

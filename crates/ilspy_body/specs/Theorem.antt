@@ -33,10 +33,10 @@ pub record RunsAsTheCode (code : List Placed) (body : Body) : Type 0 where
   pub assigned : IsDefinitelyAssigned body
   pub returns : ReturnsTheSame code body
 
--- what the tokens are in a type's body: an expression has at most 400 levels, a type 33 pairs of brackets, and at most 200 blocks and
--- 200 types are open in one another
-abbrev pub IsItem : List Token → Item → Type 0
-IsItem tokens it = (item_at (inside 400 33 200) 200).derives tokens it []
+-- what the tokens are in a type's body, where an expression has at most so many levels, a type so many pairs of brackets, and so many
+-- blocks and types are open in one another
+abbrev pub IsItem : ℕ → ℕ → ℕ → ℕ → List Token → Item → Type 0
+IsItem levels ranks blocks nesting tokens it = (item_at (inside levels ranks blocks) nesting).derives tokens it []
 
 -- the text is in UTF-8, and is one list of tokens, and no other
 pub record HasOneTokenList (text : List ℕ) (tokens : List Token) : Type 0 where
@@ -44,10 +44,10 @@ pub record HasOneTokenList (text : List ℕ) (tokens : List Token) : Type 0 wher
   pub are : AreTokens (chars text) tokens
   pub only : (others : List Token) → AreTokens (chars text) others → others ≡ tokens
 
--- the tokens are one member, and no other, nor anything else that may stand in a type's body
-pub record HasOneTree (tokens : List Token) (tree : Member) : Type 0 where
-  pub is : IsItem tokens (item.Member tree)
-  pub only : (other : Item) → IsItem tokens other → other ≡ item.Member tree
+-- the tokens are one member within these depths, and no other, nor anything else that may stand in a type's body
+pub record HasOneTree (levels ranks blocks nesting : ℕ) (tokens : List Token) (tree : Member) : Type 0 where
+  pub is : IsItem levels ranks blocks nesting tokens (item.Member tree)
+  pub only : (other : Item) → IsItem levels ranks blocks nesting tokens other → other ≡ item.Member tree
 
 -- the text reads as one tree, whose one body is typed, definitely assigned, and returns what the file's code returns
 pub record LoneBodyMeansTheSame (file text : List ℕ) : Type 0 where
@@ -56,7 +56,7 @@ pub record LoneBodyMeansTheSame (file text : List ℕ) : Type 0 where
   pub tokens : List Token
   pub lexed : HasOneTokenList text tokens
   pub tree : Member
-  pub parsed : HasOneTree tokens tree
+  pub parsed : HasOneTree 400 33 200 200 tokens tree
   pub body : Body
   pub elaborated : body_of tree ≡ Some body
   pub runs : RunsAsTheCode code body
