@@ -78,14 +78,14 @@ is_read_as : MembersAreReadBack → (levels ranks blocks nesting : ℕ) (m : Mem
     → (ts : List Token) → AreTokensOf (member_laid m []) ts → IsReadAs levels ranks blocks nesting m ts
 is_read_as law levels ranks blocks nesting m some more well ts those =
     let read = law levels ranks blocks nesting m [] some more well ts those in
-    let as = read.1 in
+    let like = read.1 in
     record {
-      tree = as.0;
+      tree = like.0;
       parsed = record {
-        is = subst (IsItem levels ranks blocks nesting ts) as.1 read.2;
-        only = λ other d. only_one other (item.Member as.0) (read.3 (Ok other) d ∙ ap Ok as.1);
+        is = subst (IsItem levels ranks blocks nesting ts) like.1 read.2;
+        only = λ other d. only_one other (item.Member like.0) (read.3 (Ok other) d ∙ ap Ok like.1);
       };
-      same = as.2;
+      same = like.2;
     }
 
 pub flat_text_reads : TextLaws → (role : Role) (stmts : List Stmt) → AreFlat 4 stmts → length stmts ≤ 2 ^ 32 → TextReads (text_of (lone_body role stmts)) stmts
