@@ -1,5 +1,5 @@
 -- The layout of a static method of ints is written well.
-use Rattle.std.proofs.Common.{◌≡◌, ℕ, List, [], ◌∷◌, ◌++◌, All, map, Some, None, codes, refl, arith}
+use Rattle.std.proofs.Common.{◌≡◌, ℕ, false, List, [], ◌∷◌, ◌++◌, All, map, Some, None, codes, refl, arith}
 use Rattle.cs_token.specs.declared.lexeme.Lexeme.TheVariants as lexeme
 use Rattle.cs_tree.specs.declared.types.Param.{Param}
 use Rattle.cs_tree.specs.declared.forms.Block.{Block}

@@ -8,6 +8,7 @@ pub mod Simulation
 pub mod Returns
 pub mod Names
 pub mod Forms
+pub mod Ints
 pub mod Values
 pub mod TreeMeans
 pub mod HeadSound

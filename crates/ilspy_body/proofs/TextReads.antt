@@ -1,5 +1,5 @@
 -- The text of a flat body is one list of tokens, which are one tree, which has the body.
-use Rattle.std.proofs.Common.{◌≡◌, ℕ, ◌^◌, ◌<◌, ◌≤◌, List, [], length, codes, Some, None, Ok, refl, sym, ap, ◌∙◌, subst, arith}
+use Rattle.std.proofs.Common.{◌≡◌, ℕ, ◌^◌, ◌<◌, ◌≤◌, Bool, List, [], length, codes, Some, None, Result, Ok, refl, sym, ap, ◌∙◌, subst, arith}
 use Rattle.std.specs.Prelude.{IsUtf8}
 use Rattle.std.specs.List.{flat_map}
 use Rattle.std.specs.Str.{chars}
@@ -71,7 +71,10 @@ pub record IsReadAs (levels ranks blocks nesting : ℕ) (m : Member) (tokens : L
   pub parsed : HasOneTree levels ranks blocks nesting tokens tree
   pub same : bare_member tree ≡ bare_member m
 
-only_one : (i j : Item) → Ok i ≡ Ok j → i ≡ j
+abbrev answer : Item → Result Item (Bool × List Token)
+answer it = Ok it
+
+only_one : (i j : Item) → answer i ≡ answer j → i ≡ j
 only_one i j e = cc
 
 is_read_as : MembersAreReadBack → (levels ranks blocks nesting : ℕ) (m : Member) → 0 < ranks → 0 < blocks → IsWellFormedMember levels ranks blocks m
@@ -83,7 +86,7 @@ is_read_as law levels ranks blocks nesting m some more well ts those =
       tree = like.0;
       parsed = record {
         is = subst (IsItem levels ranks blocks nesting ts) like.1 read.2;
-        only = λ other d. only_one other (item.Member like.0) (read.3 (Ok other) d ∙ ap Ok like.1);
+        only = λ other d. only_one other (item.Member like.0) (read.3 (answer other) d ∙ ap answer like.1);
       };
       same = like.2;
     }

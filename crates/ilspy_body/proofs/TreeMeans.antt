@@ -71,7 +71,7 @@ more_stands next e rest h f r =
       well = more_statements (syntax.Declare nowhere int_form (named (name_of next)) (form_of e)) (flat_map syntax_of rest) 0 0
           (declare nowhere int_form (named (name_of next)) (form_of e) 0 int_type (name_of_is_name next h) f.well) r.well;
       meant = ap (λ l. stmts_of (names next) (l ∷ map line_of (map bare_syntax (flat_map syntax_of rest)))) (decl_line next e)
-          ∙ decl_means next (meant_of (bare_form (form_of e))) e _ rest h f.meant r.meant;
+          ∙ decl_means next (meant_of (bare_form (form_of e))) e (map line_of (map bare_syntax (flat_map syntax_of rest))) rest h f.meant r.meant;
     })
 
 -- the statements of a flat form
@@ -89,7 +89,7 @@ four = map param (0 ∷ 1 ∷ 2 ∷ 3 ∷ [])
 four_params : All (IsParam 33) four
 four_params =
     All-from_recursion (IsParam 33) four
-    ((int_type, name_of_is_name 0 (omega arith)), (int_type, name_of_is_name 1 (omega arith)), (int_type, name_of_is_name 2 (omega arith)), (int_type, name_of_is_name 3 (omega arith)), tt)
+    ((int_type, name_of_is_name 0 (omega arith)), ((int_type, name_of_is_name 1 (omega arith)), ((int_type, name_of_is_name 2 (omega arith)), ((int_type, name_of_is_name 3 (omega arith)), tt))))
 
 method_name : IsName (codes "M")
 method_name = letter_digits_name 77 [] (omega arith) refl IsAscii-nil refl
