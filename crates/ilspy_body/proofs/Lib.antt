@@ -8,7 +8,6 @@ pub mod Simulation
 pub mod Returns
 pub mod Names
 pub mod Forms
-pub mod Ints
 pub mod Values
 pub mod TreeMeans
 pub mod HeadSound

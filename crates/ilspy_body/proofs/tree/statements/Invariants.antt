@@ -5,4 +5,4 @@ use Rattle.ilspy_body.specs.Tree.{syntax_of}
 use Rattle.ilspy_body.proofs.tree.statements.Given as goal
 
 abbrev pub invariant-loop-stmt : goal.invariant-loop-stmt
-invariant-loop-stmt l = l.all ≡ flat_map syntax_of (take l.stmt-index l.stmt-items)
+invariant-loop-stmt l = l.all ≡ flat_map syntax_of (take l.stmt-index l.stmts)
