@@ -1,7 +1,6 @@
 -- What each part of a flat body is as a tree, and what that tree means.
 use Rattle.std.proofs.Common.{◌≡◌, ℕ, List, [], ◌∷◌, Some, ℤ, false, sym, ap, ◌∙◌}
 use Rattle.cs_token.specs.declared.lexeme.Suffix.TheVariants.{Plain}
-use Rattle.cs_tree.specs.declared.types.TypeForm.{TypeForm}
 use Rattle.cs_tree.specs.declared.types.Name.{Name}
 use Rattle.cs_tree.specs.declared.types.Spot.{Spot}
 use Rattle.cs_tree.specs.declared.forms.Literal.TheVariants.{Number}

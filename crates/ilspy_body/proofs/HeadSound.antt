@@ -1,17 +1,15 @@
 -- The layout of a static method of ints is written well.
-use Rattle.std.proofs.Common.{◌≡◌, ℕ, false, List, [], ◌∷◌, ◌++◌, All, map, Some, None, codes, refl, arith}
+use Rattle.std.proofs.Common.{ℕ, false, List, [], All, Some, None, refl, arith}
 use Rattle.cs_token.specs.declared.lexeme.Lexeme.TheVariants as lexeme
 use Rattle.cs_tree.specs.declared.types.Param.{Param}
 use Rattle.cs_tree.specs.declared.forms.Block.{Block}
-use Rattle.cs_layout.specs.Pieces.{Piece}
-use Rattle.cs_layout.specs.declared.fixed.Fixed.TheVariants as part
-use Rattle.cs_layout.specs.Words.{fixed, name, type_pieces}
+use Rattle.cs_layout.specs.Words.{fixed}
 use Rattle.cs_layout.specs.Layout.{indent, deeper}
 use Rattle.cs_unit_layout.specs.Heads.{headword, mods_pieces, result_pieces, params_pieces}
 use Rattle.cs_unit_layout.specs.Members.{method_head, block_behind, bodied}
 use Rattle.cs_wellformed.specs.Words.{IsName, IsType, IsParam}
 use Rattle.cs_wellformed.specs.WellFormed.{IsBlock}
-use Rattle.cs_roundtrip_written.specs.Sound.{Before, Sound, Is, Closed}
+use Rattle.cs_roundtrip_written.specs.Sound.{Sound, Is, Closed}
 use Rattle.cs_roundtrip_written.proofs.Sounds.{sound_then, sound_none, sound_where, spaced, indented, takes_free, free_is, is_none, free_open, puts_sign, puts_keyword}
 use Rattle.cs_roundtrip_written.proofs.Words.{sound_name, sound_type, sound_params}
 use Rattle.cs_roundtrip_written.proofs.Statements.{Any, sound_braced, deeper_blank}

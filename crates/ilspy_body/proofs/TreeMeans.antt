@@ -1,5 +1,5 @@
 -- The tree of a flat body is well formed, and has the body.
-use Rattle.std.proofs.Common.{◌≡◌, ℕ, ◌+◌, ◌^◌, ◌<◌, ◌≤◌, true, List, [], ◌∷◌, ◌++◌, All, map, length, Option, Some, None, option_map, codes, refl, sym, ap, ◌∙◌, subst, add-one, lit<, arith}
+use Rattle.std.proofs.Common.{◌≡◌, ℕ, ◌+◌, ◌^◌, ◌<◌, ◌≤◌, true, List, [], ◌∷◌, ◌++◌, All, map, length, Some, None, option_map, codes, refl, sym, ap, ◌∙◌, subst, add-one, lit<, arith}
 use Rattle.std.specs.Prelude.{if◌then◌else◌}
 use Rattle.std.specs.List.{flat_map}
 use Rattle.std.proofs.lemmas.Fmt.{decimal_digit}
@@ -10,11 +10,10 @@ use Rattle.cs_tree.specs.declared.forms.Syntax.{Syntax}
 use Rattle.cs_tree.specs.declared.forms.Syntax.TheVariants as syntax
 use Rattle.cs_tree.specs.Bare.{nowhere, bare_name, bare_form, bare_syntax, bare_block}
 use Rattle.cs_wellformed.specs.Words.{IsName, IsType, IsParam}
-use Rattle.cs_wellformed.specs.WellFormed.{AreStatements, no_statements, more_statements, IsStatement, declare, «return», some_value, in_braces, IsBlock}
+use Rattle.cs_wellformed.specs.WellFormed.{AreStatements, no_statements, more_statements, declare, «return», some_value, in_braces, IsBlock}
 use Rattle.cs_wellformed.proofs.Bared.{bare_Declare, bare_Return}
 use Rattle.cs_wellformed.proofs.Parts.{bare_block_is}
 use Rattle.cs_roundtrip_members.specs.Members.{IsWellFormedMember}
-use Rattle.cs_body.specs.declared.body.Body.{Body}
 use Rattle.cs_body.specs.declared.body.Role.{Role}
 use Rattle.cs_body.specs.declared.body.Role.TheVariants.{Local}
 use Rattle.cs_body.specs.declared.tree.Expr.{Expr}

@@ -1,5 +1,5 @@
 -- The tree of a flat form is well formed, and means the form.
-use Rattle.std.proofs.Common.{◌≡◌, ℕ, suc, ◌+◌, ◌^◌, ◌<◌, ◌≤◌, Bool, true, false, nat_lt, nat_le, max, List, Some, None, option_map, ℤ, pos, negsuc, FitsSigned, w32, refl, sym, ap, ◌∙◌, subst, arith}
+use Rattle.std.proofs.Common.{◌≡◌, ℕ, suc, ◌+◌, ◌^◌, ◌<◌, ◌≤◌, Bool, true, false, nat_lt, nat_le, max, Some, None, option_map, ℤ, pos, negsuc, FitsSigned, w32, refl, sym, ap, ◌∙◌, subst, arith}
 use Rattle.std.proofs.Math.Nat.{max-le}
 use Rattle.std.proofs.lemmas.Bool.{lt-ltb, le-leb, cond-true}
 use Rattle.cs_token.specs.declared.lexeme.Suffix.TheVariants.{Plain}
