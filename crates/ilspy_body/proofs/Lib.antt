@@ -6,17 +6,13 @@ pub mod CilRuns
 pub mod Simulation
 -- flat_form::flat
 pub mod Returns
-pub mod LayoutLines
-pub mod Chains
 pub mod Names
-pub mod FormReads
+pub mod Forms
+pub mod Values
+pub mod TreeMeans
+pub mod HeadSound
+pub mod Utf8Pieces
 pub mod TextReads
-pub mod Runs
-pub mod FormUnique
--- reading::one_tree
-pub mod TreeUnique
--- reading::one_tree
-pub mod TokensUnique
 -- flat_form::flattened
 pub mod FlatCode
 pub mod FlatLength

@@ -1,67 +1,56 @@
 -- The names of variables: each is a name, and no two are the same.
-use Rattle.std.proofs.Common.{◌≡◌, ℕ, zero, suc, ◌-◌, ◌^◌, ◌<◌, ◌≤◌, Bool, true, false, not, ◌==◌, nat_lt, nat_le, List, [], ◌∷◌, ◌++◌, length, get_or, decimal, Some, None, position, refl, sym, ap, ap₂, ◌∙◌, inl, inr, arith}
-use Rattle.std.specs.List.{list_any, list_all, position_or_len}
-use Rattle.std.specs.Str.Parse.{AllDigits, IsNumeral}
-use Rattle.std.specs.Char.{digit_value}
-use Rattle.std.specs.Int.{IsInRange}
-use Rattle.std.proofs.lemmas.Fmt.{decimal_is_IsNumeral, decimal_injective}
+use Rattle.std.proofs.Common.{◌≡◌, ℕ, zero, suc, ◌-◌, ◌^◌, ◌<◌, ◌≤◌, Bool, true, false, ◌==◌, ◌&&◌, ◌||◌, nat_lt, List, [], ◌∷◌, ◌++◌, length, get_or, decimal, Some, None, position, refl, sym, ap, ◌∙◌, inl, inr, arith}
+use Rattle.std.specs.List.{list_all, position_or_len}
+use Rattle.std.specs.Char.{is_ascii_alphabetic, is_ascii_alphanumeric}
+use Rattle.std.specs.Str.{bytes_eq, IsAscii}
+use Rattle.std.proofs.lemmas.Fmt.{decimal_is_IsNumeral, decimal_injective, IsAscii-decimal}
 use Rattle.std.proofs.lemmas.List.{length_push, get_or_push, get_or_append_left}
 use Rattle.std.proofs.lemmas.List.Sums.{position_or_len_is}
-use Rattle.std.proofs.lemmas.Str.Parse.{digit_from_value}
-use Rattle.std.proofs.lemmas.Bool.{and_parts, and_from, or_right, or_from, true≢false, not-true, eqb-true, eq-eqb, le-leb, lt-ltb, le-ltb, cond-true, cond-false, false_from_ne_true, cases_lt, cases_order}
-use Rattle.ilspy_body.specs.Tokens.{is_letter, is_digit, is_part, keywords, same_text}
+use Rattle.std.proofs.lemmas.Slice.Eq.{bytes_eq-Decides}
+use Rattle.std.proofs.lemmas.Str.{IsUtf8-from_ascii, chars-IsAscii}
+use Rattle.std.proofs.lemmas.Str.Ascii.{IsAscii-cons}
+use Rattle.std.proofs.lemmas.Bool.{lt-ltb, le-ltb, cond-true, cond-false, false_from_ne_true, cases_lt, cases_order}
+use Rattle.std.proofs.lemmas.Bool.Decides.{nat_tests}
+use Rattle.unicode_ident.specs.Ident.{is_xid_start, is_xid_continue}
+use Rattle.unicode_ident.proofs.IdentLemmas.{is_xid_start-ascii, is_xid_continue-ascii}
+use Rattle.dc_base.specs.Identifiers.{is_legal}
+use Rattle.cs_token.specs.Words.{is_digit}
+use Rattle.cs_written.proofs.Basics.{both_true}
+use Rattle.cs_written.proofs.Numerals.{all_digits}
+use Rattle.cs_wellformed.specs.Words.{IsName}
+use Rattle.ilspy_body.specs.Tree.{name_of}
 use Rattle.ilspy_body.specs.Elaborate.{Scope, var_named}
-use Rattle.ilspy_body.specs.Layout.{name_of}
-use Rattle.ilspy_body.proofs.Chains.{IsName}
 
--- texts that the test calls the same are equal
-same_text_tells : (v w : List ℕ) → same_text v w ≡ true → v ≡ w
-same_text_tells [] [] h = refl
-same_text_tells [] (d ∷ ds) h = absurd (true≢false (sym h))
-same_text_tells (c ∷ cs) [] h = absurd (true≢false (sym h))
-same_text_tells (c ∷ cs) (d ∷ ds) h =
-    let parts : ((c == d) ≡ true) × (same_text cs ds ≡ true) = and_parts (c == d) (same_text cs ds) h in
-    ap₂ (λ x xs. x ∷ xs) (eqb-true c d parts.0) (same_text_tells cs ds parts.1)
+-- a digit continues a word
+digit_continues : (c : ℕ) → is_digit c ≡ true → is_xid_continue c ≡ true
+digit_continues c h =
+    let low : c < 128 = grind (arith, nat_tests, h) in
+    let letter : (is_ascii_alphanumeric c || c == 95) ≡ true = grind (arith, nat_tests, h) in
+    is_xid_continue-ascii c low ∙ letter
 
--- a text is the same as itself
-same_text_self : (v : List ℕ) → same_text v v ≡ true
-same_text_self [] = refl
-same_text_self (c ∷ cs) = and_from (c == c) (same_text cs cs) (eq-eqb c c refl) (same_text_self cs)
+digits_continue : (ds : List ℕ) → list_all is_digit ds ≡ true → list_all is_xid_continue ds ≡ true
+digits_continue [] h = refl
+digits_continue (c ∷ cs) h =
+    let each = both_true (is_digit c) (list_all is_digit cs) h in
+    ap (λ b. b && list_all is_xid_continue cs) (digit_continues c each.0) ∙ digits_continue cs each.1
 
--- a digit as std tells it is one here
-digit_is_digit : (c : ℕ) → digit_value c < 10 → is_digit c ≡ true
-digit_is_digit c h =
-    let r : IsInRange 48 57 c = digit_from_value c h in
-    and_from (nat_le 48 c) (nat_le c 57) (le-leb 48 c r.0) (le-leb c 57 r.1)
+-- a letter begins a word
+letter_begins : (c : ℕ) → c < 128 → is_ascii_alphabetic c ≡ true → (b : Bool) → (b || is_xid_start c) ≡ true
+letter_begins c low h true = refl
+letter_begins c low h false = is_xid_start-ascii c low ∙ h
 
--- digits are parts of a word
-digits_are_parts : (ds : List ℕ) → AllDigits 10 ds → list_all is_part ds ≡ true
-digits_are_parts [] h = refl
-digits_are_parts (c ∷ cs) h =
-    and_from (is_part c) (list_all is_part cs) (or_right (is_letter c) (is_digit c) (digit_is_digit c h.0)) (digits_are_parts cs h.1)
+-- a letter and digits are legal
+legal_word : (c : ℕ) (ds : List ℕ) → c < 128 → is_ascii_alphabetic c ≡ true → list_all is_digit ds ≡ true → is_legal (c ∷ ds) ≡ true
+legal_word c ds low h digits = ap (λ b. b && list_all is_xid_continue ds) (letter_begins c low h (c == 95)) ∙ digits_continue ds digits
 
--- the first of some digits is a digit
-pub first_digit : (ds : List ℕ) → IsNumeral 10 ds → is_digit (get_or ds 0 0) ≡ true
-first_digit [] h = absurd (omega (arith, h.0))
-first_digit (c ∷ cs) h = digit_is_digit c h.1.0
+-- a letter and digits are a name
+pub letter_digits_name : (c : ℕ) (ds : List ℕ) → c < 128 → is_ascii_alphabetic c ≡ true → IsAscii ds → list_all is_digit ds ≡ true → IsName (c ∷ ds)
+letter_digits_name c ds low l ascii digits =
+    let all : IsAscii (c ∷ ds) = IsAscii-cons c ds low ascii in
+    (IsUtf8-from_ascii (c ∷ ds) all, ap is_legal (chars-IsAscii (c ∷ ds) all) ∙ legal_word c ds low l digits)
 
--- no keyword has a digit in second place
-no_digit_second : (w : List ℕ) (ks : List (List ℕ)) → is_digit (get_or w 1 0) ≡ true → list_all (λ k. not (is_digit (get_or k 1 0))) ks ≡ true → list_any (same_text w) ks ≡ false
-no_digit_second w [] d a = refl
-no_digit_second w (k ∷ ks) d a =
-    let parts : (not (is_digit (get_or k 1 0)) ≡ true) × (list_all (λ j. not (is_digit (get_or j 1 0))) ks ≡ true) = and_parts (not (is_digit (get_or k 1 0))) (list_all (λ j. not (is_digit (get_or j 1 0))) ks) a in
-    or_from (same_text w k) (list_any (same_text w) ks)
-    (false_from_ne_true (same_text w k) (λ e. true≢false (sym d ∙ ap (λ t. is_digit (get_or t 1 0)) (same_text_tells w k e) ∙ not-true (is_digit (get_or k 1 0)) parts.0)))
-    (no_digit_second w ks d parts.1)
-
--- a letter and a number are a name
-letter_number_name : (c n : ℕ) → is_letter c ≡ true → n < 2 ^ 64 → IsName (c ∷ decimal n)
-letter_number_name c n l h =
-    let numeral = decimal_is_IsNumeral n h in
-    record {
-      is = and_from (is_letter c) (list_all is_part (decimal n)) l (digits_are_parts (decimal n) numeral.0.1);
-      no_keyword = no_digit_second (c ∷ decimal n) keywords (first_digit (decimal n) numeral.0) refl;
-    }
+letter_number_name : (c n : ℕ) → c < 128 → is_ascii_alphabetic c ≡ true → n < 2 ^ 64 → IsName (c ∷ decimal n)
+letter_number_name c n low l h = letter_digits_name c (decimal n) low l (IsAscii-decimal n h) (all_digits (decimal n) (decimal_is_IsNumeral n h).0.1)
 
 -- the name of a parameter
 name_of_param : (v : ℕ) → v < 4 → name_of v ≡ 97 ∷ decimal v
@@ -75,8 +64,8 @@ name_of_other v h = cond-false (nat_lt v 4) (97 ∷ decimal v) (118 ∷ decimal 
 pub name_of_is_name : (v : ℕ) → v < 2 ^ 64 → IsName (name_of v)
 name_of_is_name v h =
     elim (cases_lt v 4) [
-      | inl low ↦ rw (name_of_param v low) (letter_number_name 97 v refl h)
-      | inr high ↦ rw (name_of_other v high) (letter_number_name 118 (v - 4) refl (omega arith))
+      | inl low ↦ rw (name_of_param v low) (letter_number_name 97 v (omega arith) refl h)
+      | inr high ↦ rw (name_of_other v high) (letter_number_name 118 (v - 4) (omega arith) refl (omega arith))
     ]
 
 -- a letter and a number tell both
@@ -100,8 +89,12 @@ name_of_injective v w h k e =
     ]
 
 -- the test tells the names of different variables apart
-names_differ : (v w : ℕ) → v < 2 ^ 64 → w < 2 ^ 64 → (v ≡ w → ⊥) → same_text (name_of v) (name_of w) ≡ false
-names_differ v w h k d = false_from_ne_true (same_text (name_of v) (name_of w)) (λ e. d (name_of_injective v w h k (same_text_tells (name_of v) (name_of w) e)))
+names_differ : (v w : ℕ) → v < 2 ^ 64 → w < 2 ^ 64 → (v ≡ w → ⊥) → bytes_eq (name_of v) (name_of w) ≡ false
+names_differ v w h k d = false_from_ne_true (bytes_eq (name_of v) (name_of w)) (λ e. d (name_of_injective v w h k ((bytes_eq-Decides (name_of v) (name_of w)).0 e)))
+
+-- and finds each the same as itself
+same_name : (v : List ℕ) → bytes_eq v v ≡ true
+same_name v = (bytes_eq-Decides v v).1 refl
 
 -- the names of the first variables
 abbrev pub names : ℕ → Scope
@@ -140,12 +133,12 @@ position_nowhere p xs d each =
 -- a name in scope is the name of its variable
 pub var_named_of : (next v : ℕ) → next < 2 ^ 64 → v < next → var_named (names next) (name_of v) ≡ Some v
 var_named_of next v h k =
-    position_at (same_text (name_of v)) (names next) v [] (omega (arith, length-names next))
-    (λ j b. ap (same_text (name_of v)) (names_at next j [] (omega arith)) ∙ names_differ v j (omega arith) (omega arith) (λ e. omega arith))
-    (ap (same_text (name_of v)) (names_at next v [] k) ∙ same_text_self (name_of v))
+    position_at (bytes_eq (name_of v)) (names next) v [] (omega (arith, length-names next))
+    (λ j b. ap (bytes_eq (name_of v)) (names_at next j [] (omega arith)) ∙ names_differ v j (omega arith) (omega arith) (λ e. omega arith))
+    (ap (bytes_eq (name_of v)) (names_at next v [] k) ∙ same_name (name_of v))
 
 -- the next variable's name is not yet in scope
 pub next_is_new : (next : ℕ) → next < 2 ^ 64 → var_named (names next) (name_of next) ≡ None
 next_is_new next h =
-    position_nowhere (same_text (name_of next)) (names next) []
-    (λ j b. let c : j < next = omega (arith, length-names next) in ap (same_text (name_of next)) (names_at next j [] c) ∙ names_differ next j h (omega arith) (λ e. omega arith))
+    position_nowhere (bytes_eq (name_of next)) (names next) []
+    (λ j b. let c : j < next = omega (arith, length-names next) in ap (bytes_eq (name_of next)) (names_at next j [] c) ∙ names_differ next j h (omega arith) (λ e. omega arith))

@@ -1,167 +1,107 @@
--- How the text of a lone body reads: as the tree of a method, which means the body.
-use Rattle.std.proofs.Common.{◌≡◌, ℕ, ◌+◌, ◌^◌, ◌<◌, ◌≤◌, false, List, [], ◌∷◌, ◌++◌, length, drop, codes, Some, option_map, flat_map, refl, ap, append_assoc, append-nil, add-one, lit<, arith}
-use Rattle.std.proofs.lemmas.Fmt.{decimal_digit}
+-- The text of a flat body is one list of tokens, which are one tree, which has the body.
+use Rattle.std.proofs.Common.{◌≡◌, ℕ, ◌^◌, ◌<◌, ◌≤◌, Bool, List, [], length, codes, Some, None, Result, Ok, refl, sym, ap, ◌∙◌, subst, arith}
+use Rattle.std.specs.Prelude.{IsUtf8}
+use Rattle.std.specs.List.{flat_map}
+use Rattle.std.specs.Str.{chars}
+use Rattle.std.proofs.Math.Utf8.{encodes}
+use Rattle.std.proofs.lemmas.Str.{chars_from_encodes}
+use Rattle.cs_token.specs.declared.tokens.Token.{Token}
+use Rattle.cs_token.specs.Cuts.{AreTokens}
+use Rattle.cs_lex.specs.Lexed.{HasOneAnswer}
+use Rattle.cs_tree.specs.declared.members.Member.{Member}
+use Rattle.cs_tree.specs.declared.declarations.Item.{Item}
+use Rattle.cs_tree.specs.declared.declarations.Item.TheVariants as item
+use Rattle.cs_tree.specs.BareUnits.{bare_member}
+use Rattle.cs_written.specs.Written.{written}
+use Rattle.cs_written.proofs.Apart.{read_from}
+use Rattle.cs_layout.specs.Pieces.{Piece, piece_bytes, tokens, last}
+use Rattle.cs_layout.proofs.Written.{bytes_from}
+use Rattle.cs_unit_layout.specs.Members.{member_laid}
+use Rattle.cs_roundtrip_members.specs.Members.{IsWellFormedMember}
+use Rattle.cs_roundtrip_members.specs.Laws.{MembersAreReadBack}
+use Rattle.cs_roundtrip_types.specs.Laws.{AreTokensOf}
+use Rattle.cs_roundtrip_written.specs.Sound.{Sound, Is}
+use Rattle.cs_roundtrip_written.proofs.Texts.{gaps_are_blank, written_from}
 use Rattle.cs_body.specs.declared.body.Role.{Role}
 use Rattle.cs_body.specs.declared.body.Role.TheVariants.{Local}
-use Rattle.cs_body.specs.declared.tree.Expr.{Expr}
-use Rattle.cs_body.specs.declared.tree.Expr.TheVariants as expr
 use Rattle.cs_body.specs.declared.tree.Stmt.{Stmt}
-use Rattle.cs_body.specs.declared.tree.Stmt.TheVariants as stmt
-use Rattle.ilspy_body.specs.Tokens.{Token, Keyword, Name, Sign, is_part, AreTokens}
-use Rattle.ilspy_body.specs.Tree.{Form, Line, Declares, Returns, Method, int_word, AreLines, params_tokens, IsTree}
-use Rattle.ilspy_body.specs.Elaborate.{Scope, expr_of, stmts_of, body_of}
 use Rattle.ilspy_body.specs.Flat.{lone_body}
-use Rattle.ilspy_body.specs.Layout.{name_of, line_text, form_text, head_text, text_of}
-use Rattle.ilspy_body.proofs.FlatShape.{AreFlat, last, more, variable}
-use Rattle.ilspy_body.proofs.LayoutLines.{line_of_decl, line_of_return}
-use Rattle.ilspy_body.proofs.Chains.{IsName, blank_before, keyword_before, sign_before, name_before}
-use Rattle.ilspy_body.proofs.Names.{names, length-names, name_of_is_name, next_is_new}
-use Rattle.ilspy_body.proofs.FormReads.{ReadsForm, reads_form}
+use Rattle.ilspy_body.specs.Tree.{block, syntax_of, member_of}
+use Rattle.ilspy_body.specs.Layout.{text_of}
+use Rattle.ilspy_body.specs.Elaborate.{bare_body, body_of}
+use Rattle.ilspy_body.specs.Theorem.{IsItem, HasOneTokenList, HasOneTree}
+use Rattle.ilspy_body.proofs.FlatShape.{AreFlat}
+use Rattle.ilspy_body.proofs.TreeMeans.{four, member_stands}
+use Rattle.ilspy_body.proofs.HeadSound.{sound_method}
+use Rattle.ilspy_body.proofs.Utf8Pieces.{pieces_utf8}
 
--- the text of the statements reads, before any tokens, as lines that mean them
-pub record ReadsRest (scope : Scope) (stmts : List Stmt) : Type 0 where
+-- bytes of pieces that are written well are text in UTF-8, whose tokens are theirs
+pub record IsTokenText (ps : List Piece) : Type 0 where
+  pub utf8 : IsUtf8 (flat_map piece_bytes ps)
   pub tokens : List Token
-  pub lines : List Line
-  pub lexed : (rest : List ℕ) (ts : List Token) → AreTokens rest ts → AreTokens (flat_map line_text stmts ++ rest) (tokens ++ ts)
-  pub parsed : AreLines tokens lines
-  pub meant : stmts_of scope lines ≡ Some stmts
+  pub are : AreTokens (chars (flat_map piece_bytes ps)) tokens
+  pub those : AreTokensOf ps tokens
 
--- four blanks
-indented : (text : List ℕ) (ts : List Token) → AreTokens text ts → AreTokens (32 ∷ 32 ∷ 32 ∷ 32 ∷ text) ts
-indented text ts a =
-    blank_before 32 (32 ∷ 32 ∷ 32 ∷ text) ts refl (blank_before 32 (32 ∷ 32 ∷ text) ts refl (blank_before 32 (32 ∷ text) ts refl (blank_before 32 text ts refl a)))
+token_text : (ps : List Piece) → Sound (Is None) ps (Is None) → IsTokenText ps
+token_text ps sound =
+    let well = (sound.sound None refl).0 in
+    let text = written (tokens ps) (last ps) in
+    let utf8 = pieces_utf8 None ps well in
+    let bytes : flat_map piece_bytes ps ≡ encodes text = bytes_from [] ps (gaps_are_blank None ps well) in
+    let same : text ≡ chars (flat_map piece_bytes ps) = chars_from_encodes text (flat_map piece_bytes ps) utf8 (sym bytes) in
+    let read = read_from text (tokens ps) (last ps) (written_from None [] ps refl well) in
+    record { utf8 = utf8; tokens = read.0; are = subst (λ cs. AreTokens cs read.0) same read.1; those = read.2 }
 
--- a semicolon and a newline
-line_end : (rest : List ℕ) (ts : List Token) → AreTokens rest ts → AreTokens (59 ∷ 10 ∷ rest) (Sign 59 ∷ ts)
-line_end rest ts a = sign_before 59 10 rest ts refl refl (blank_before 10 rest ts refl a)
+-- the laws of the crates below
+pub record TextLaws : Type 0 where
+  pub lexed : HasOneAnswer
+  pub members : MembersAreReadBack
 
--- the tokens of a declaration
-decl_tokens : (name text : List ℕ) (ts : List Token) → IsName name → AreTokens text ts → AreTokens (codes "    int " ++ (name ++ (codes " = " ++ text))) (int_word ∷ Name name ∷ Sign 61 ∷ ts)
-decl_tokens name text ts n a =
-    indented (codes "int " ++ (name ++ (codes " = " ++ text))) (int_word ∷ Name name ∷ Sign 61 ∷ ts)
-    (keyword_before (codes "int") 32 (name ++ (codes " = " ++ text)) (Name name ∷ Sign 61 ∷ ts) refl refl
-    (blank_before 32 (name ++ (codes " = " ++ text)) (Name name ∷ Sign 61 ∷ ts) refl
-    (name_before name 32 (61 ∷ 32 ∷ text) (Sign 61 ∷ ts) n refl
-    (blank_before 32 (61 ∷ 32 ∷ text) (Sign 61 ∷ ts) refl
-    (sign_before 61 32 text ts refl refl (blank_before 32 text ts refl a))))))
-
--- the tokens of a return
-return_tokens : (text rest : List ℕ) (us ts : List Token) → ((rest' : List ℕ) (vs : List Token) → AreTokens (59 ∷ rest') vs → AreTokens (text ++ 59 ∷ rest') (us ++ vs)) → AreTokens rest ts → AreTokens (codes "    return " ++ (text ++ 59 ∷ 10 ∷ rest)) (Keyword (codes "return") ∷ (us ++ Sign 59 ∷ ts))
-return_tokens text rest us ts form a =
-    indented (codes "return " ++ (text ++ 59 ∷ 10 ∷ rest)) (Keyword (codes "return") ∷ (us ++ Sign 59 ∷ ts))
-    (keyword_before (codes "return") 32 (text ++ 59 ∷ 10 ∷ rest) (us ++ Sign 59 ∷ ts) refl refl
-    (blank_before 32 (text ++ 59 ∷ 10 ∷ rest) (us ++ Sign 59 ∷ ts) refl (form (10 ∷ rest) (Sign 59 ∷ ts) (line_end rest ts a))))
-
--- a return alone reads as its line
-reads_last : (scope : Scope) (value : Expr) → ReadsForm scope value → ReadsRest scope (stmt.Return (Some value) ∷ [])
-reads_last scope value f = record {
-  tokens = Keyword (codes "return") ∷ (f.tokens ++ Sign 59 ∷ []);
-  lines = Returns f.tree ∷ [];
-  lexed = λ rest ts a.
-      rw (append-nil (line_text (stmt.Return (Some value))), line_of_return value rest, append_assoc f.tokens (Sign 59 ∷ []) ts)
-      (return_tokens (form_text value) rest f.tokens ts f.lexed a);
-  parsed = (f.tokens, [], refl, f.parsed, refl);
-  meant = rw f.meant refl;
-}
-
--- a declaration and the statements behind it mean theirs
-decl_means : (next : ℕ) (f : Form) (value : Expr) (lines : List Line) (rest : List Stmt) → next < 2 ^ 64 → expr_of (names next) f ≡ Some value → stmts_of (names (next + 1)) lines ≡ Some rest → stmts_of (names next) (Declares (name_of next) f ∷ lines) ≡ Some (stmt.Decl next value ∷ rest)
-decl_means next f value lines rest h e r =
-    let behind : stmts_of (names next ++ name_of next ∷ []) lines ≡ Some rest = rw add-one at r in
-    rw (next_is_new next h, e, behind, length-names next) refl
-
--- a declaration before others reads as its line
-reads_more : (next : ℕ) (value : Expr) (stmts : List Stmt) → next < 2 ^ 64 → ReadsForm (names next) value → ReadsRest (names (next + 1)) stmts → ReadsRest (names next) (stmt.Decl next value ∷ stmts)
-reads_more next value stmts h f r = record {
-  tokens = int_word ∷ Name (name_of next) ∷ Sign 61 ∷ (f.tokens ++ Sign 59 ∷ r.tokens);
-  lines = Declares (name_of next) f.tree ∷ r.lines;
-  lexed = λ rest ts a.
-      rw (append_assoc (line_text (stmt.Decl next value)) (flat_map line_text stmts) rest, line_of_decl next value (flat_map line_text stmts ++ rest), append_assoc f.tokens (Sign 59 ∷ r.tokens) ts)
-      (decl_tokens (name_of next) (form_text value ++ 59 ∷ 10 ∷ (flat_map line_text stmts ++ rest)) (f.tokens ++ Sign 59 ∷ (r.tokens ++ ts)) (name_of_is_name next h)
-      (f.lexed (10 ∷ (flat_map line_text stmts ++ rest)) (Sign 59 ∷ (r.tokens ++ ts)) (line_end (flat_map line_text stmts ++ rest) (r.tokens ++ ts) (r.lexed rest ts a))));
-  parsed = (f.tokens, r.tokens, refl, f.parsed, r.parsed);
-  meant = decl_means next f.tree value r.lines stmts h f.meant r.meant;
-}
-
--- the statements of a flat form read as lines that mean them
-pub reads_rest : (next : ℕ) (stmts : List Stmt) → AreFlat next stmts → next + length stmts ≤ 2 ^ 63 → ReadsRest (names next) stmts
-reads_rest _ _ (last next x k) h = reads_last (names next) (expr.Var x) (reads_form (omega arith) (variable x k))
-reads_rest _ _ (more next value stmts k others) h =
-    reads_more next value stmts (omega arith) (reads_form (omega arith) k) (reads_rest (next + 1) stmts others (omega arith))
-
--- the names of the parameters
-abbrev pub param_names : Scope
-param_names = codes "a0" ∷ codes "a1" ∷ codes "a2" ∷ codes "a3" ∷ []
-
--- they are the names of the first four variables
-first_names : names 4 ≡ param_names
-first_names = rw (decimal_digit 0 (lit< tt), decimal_digit 1 (lit< tt), decimal_digit 2 (lit< tt), decimal_digit 3 (lit< tt)) refl
-
--- the tokens of a parameter
-param_tokens : (name : List ℕ) (c : ℕ) (text : List ℕ) (ts : List Token) → IsName name → is_part c ≡ false → AreTokens (c ∷ text) ts → AreTokens (codes "int " ++ (name ++ c ∷ text)) (int_word ∷ Name name ∷ ts)
-param_tokens name c text ts n p a =
-    keyword_before (codes "int") 32 (name ++ c ∷ text) (Name name ∷ ts) refl refl
-    (blank_before 32 (name ++ c ∷ text) (Name name ∷ ts) refl (name_before name c text ts n p a))
-
--- the tokens of a parameter before others
-comma_tokens : (name text : List ℕ) (ts : List Token) → IsName name → AreTokens text ts → AreTokens (codes "int " ++ (name ++ (codes ", " ++ text))) (int_word ∷ Name name ∷ Sign 44 ∷ ts)
-comma_tokens name text ts n a =
-    param_tokens name 44 (32 ∷ text) (Sign 44 ∷ ts) n refl (sign_before 44 32 text ts refl refl (blank_before 32 text ts refl a))
-
--- what stands between the parameters and the lines
-opening_tokens : (text : List ℕ) (ts : List Token) → AreTokens text ts → AreTokens (41 ∷ 10 ∷ 123 ∷ 10 ∷ text) (Sign 41 ∷ Sign 123 ∷ ts)
-opening_tokens text ts a =
-    sign_before 41 10 (123 ∷ 10 ∷ text) (Sign 123 ∷ ts) refl refl
-    (blank_before 10 (123 ∷ 10 ∷ text) (Sign 123 ∷ ts) refl (sign_before 123 10 text ts refl refl (blank_before 10 text ts refl a)))
-
--- the tokens of the parameters
-params_read : (text : List ℕ) (ts : List Token) → AreTokens text ts → AreTokens (codes "int a0, int a1, int a2, int a3)" ++ 10 ∷ 123 ∷ 10 ∷ text) (params_tokens param_names ++ Sign 41 ∷ Sign 123 ∷ ts)
-params_read text ts a =
-    comma_tokens (codes "a0") (codes "int a1, int a2, int a3)" ++ 10 ∷ 123 ∷ 10 ∷ text) (params_tokens (codes "a1" ∷ codes "a2" ∷ codes "a3" ∷ []) ++ Sign 41 ∷ Sign 123 ∷ ts) (record { is = refl; no_keyword = refl })
-    (comma_tokens (codes "a1") (codes "int a2, int a3)" ++ 10 ∷ 123 ∷ 10 ∷ text) (params_tokens (codes "a2" ∷ codes "a3" ∷ []) ++ Sign 41 ∷ Sign 123 ∷ ts) (record { is = refl; no_keyword = refl })
-    (comma_tokens (codes "a2") (codes "int a3)" ++ 10 ∷ 123 ∷ 10 ∷ text) (params_tokens (codes "a3" ∷ []) ++ Sign 41 ∷ Sign 123 ∷ ts) (record { is = refl; no_keyword = refl })
-    (param_tokens (codes "a3") 41 (10 ∷ 123 ∷ 10 ∷ text) (Sign 41 ∷ Sign 123 ∷ ts) (record { is = refl; no_keyword = refl }) refl (opening_tokens text ts a))))
-
--- the tokens of a method's head
-head_read : (text : List ℕ) (ts : List Token) → AreTokens text ts → AreTokens (head_text ++ text) (Keyword (codes "static") ∷ int_word ∷ Name (codes "M") ∷ Sign 40 ∷ (params_tokens param_names ++ Sign 41 ∷ Sign 123 ∷ ts))
-head_read text ts a =
-    let inside : List ℕ = codes "int a0, int a1, int a2, int a3)" ++ 10 ∷ 123 ∷ 10 ∷ text in
-    let later : List Token = params_tokens param_names ++ Sign 41 ∷ Sign 123 ∷ ts in
-    keyword_before (codes "static") 32 (codes "int M(" ++ inside) (int_word ∷ Name (codes "M") ∷ Sign 40 ∷ later) refl refl
-    (blank_before 32 (codes "int M(" ++ inside) (int_word ∷ Name (codes "M") ∷ Sign 40 ∷ later) refl
-    (param_tokens (codes "M") 40 inside (Sign 40 ∷ later) (record { is = refl; no_keyword = refl }) refl
-    (sign_before 40 105 (drop 1 inside) later refl refl (params_read text ts a))))
-
--- the closing brace
-closing_read : AreTokens (codes "}" ++ 10 ∷ []) (Sign 125 ∷ [])
-closing_read = sign_before 125 10 [] [] refl refl refl
-
--- a text reads as a tree whose body has these statements, in variables of the role that locals have
+-- a text reads as one tree, whose body has these statements, in variables of the role that locals have
 pub record TextReads (text : List ℕ) (stmts : List Stmt) : Type 0 where
   pub tokens : List Token
-  pub tree : Method
-  pub are : AreTokens text tokens
-  pub is : IsTree tokens tree
+  pub lexed : HasOneTokenList text tokens
+  pub tree : Member
+  pub parsed : HasOneTree 400 33 200 200 tokens tree
   pub elaborated : body_of tree ≡ Some (lone_body Local stmts)
 
--- what a body's text is
-text_of_body : (role : Role) (stmts : List Stmt) → text_of (lone_body role stmts) ≡ head_text ++ (flat_map line_text stmts ++ (codes "}" ++ 10 ∷ []))
-text_of_body role stmts = simp append_assoc
+-- a well formed member's tokens are it and nothing else
+pub record IsReadAs (levels ranks blocks nesting : ℕ) (m : Member) (tokens : List Token) : Type 0 where
+  pub tree : Member
+  pub parsed : HasOneTree levels ranks blocks nesting tokens tree
+  pub same : bare_member tree ≡ bare_member m
 
--- lines that mean the statements make a method's body
-lines_elaborated : (stmts : List Stmt) (r : ReadsRest (names 4) stmts) → body_of (record { name = codes "M"; params = param_names; lines = r.lines }) ≡ Some (lone_body Local stmts)
-lines_elaborated stmts r =
-    let meant : stmts_of param_names r.lines ≡ Some stmts = rw first_names at r.meant in
-    ap (option_map (lone_body Local)) meant
+abbrev answer : Item → Result Item (Bool × List Token)
+answer it = Ok it
 
--- the text of a flat body reads as a method that means the body
-pub flat_text_reads : (role : Role) (stmts : List Stmt) → AreFlat 4 stmts → length stmts ≤ 2 ^ 32 → TextReads (text_of (lone_body role stmts)) stmts
-flat_text_reads role stmts flat h =
-    let r = reads_rest 4 stmts flat (omega arith) in
+only_one : (i j : Item) → answer i ≡ answer j → i ≡ j
+only_one i j e = cc
+
+is_read_as : MembersAreReadBack → (levels ranks blocks nesting : ℕ) (m : Member) → 0 < ranks → 0 < blocks → IsWellFormedMember levels ranks blocks m
+    → (ts : List Token) → AreTokensOf (member_laid m []) ts → IsReadAs levels ranks blocks nesting m ts
+is_read_as law levels ranks blocks nesting m some more well ts those =
+    let read = law levels ranks blocks nesting m [] some more well ts those in
+    let like = read.1 in
     record {
-      tokens = Keyword (codes "static") ∷ int_word ∷ Name (codes "M") ∷ Sign 40 ∷ (params_tokens param_names ++ Sign 41 ∷ Sign 123 ∷ (r.tokens ++ Sign 125 ∷ []));
-      tree = record { name = codes "M"; params = param_names; lines = r.lines };
-      are = rw (text_of_body role stmts) (head_read (flat_map line_text stmts ++ (codes "}" ++ 10 ∷ [])) (r.tokens ++ Sign 125 ∷ []) (r.lexed (codes "}" ++ 10 ∷ []) (Sign 125 ∷ []) closing_read));
-      is = (r.tokens, refl, r.parsed);
-      elaborated = lines_elaborated stmts r;
+      tree = like.0;
+      parsed = record {
+        is = subst (IsItem levels ranks blocks nesting ts) like.1 read.2;
+        only = λ other d. only_one other (item.Member like.0) (read.3 (answer other) d ∙ ap answer like.1);
+      };
+      same = like.2;
+    }
+
+pub flat_text_reads : TextLaws → (role : Role) (stmts : List Stmt) → AreFlat 4 stmts → length stmts ≤ 2 ^ 32 → TextReads (text_of (lone_body role stmts)) stmts
+flat_text_reads laws role stmts flat h =
+    let m = member_of (lone_body role stmts) in
+    let ps = member_laid m [] in
+    let s = member_stands role stmts flat h in
+    let text = token_text ps (sound_method (codes "M") four (block (flat_map syntax_of stmts)) 1 s.result s.name s.params s.body) in
+    let read = is_read_as laws.members 400 33 200 200 m (omega arith) (omega arith) s.well text.tokens text.those in
+    record {
+      tokens = text.tokens;
+      lexed = record { utf8 = text.utf8; are = text.are; only = λ others a. laws.lexed.one_list (chars (flat_map piece_bytes ps)) others text.tokens a text.are };
+      tree = read.tree;
+      parsed = read.parsed;
+      elaborated = ap bare_body read.same ∙ s.elaborated;
     }

@@ -1,7 +1,6 @@
--- What a reader must believe: the theorem, and what a text is read as.
-pub mod Tokens
-pub mod Tree
+-- What a reader must believe: the theorem, and which body a text has.
 pub mod Flat
+pub mod Tree
 pub mod Layout
 pub mod Elaborate
 pub mod Theorem

@@ -10,6 +10,8 @@ ghost use Rattle.ilspy_body.specs.Layout.{text_of};
 ghost use Rattle.ilspy_body.specs.Theorem.{LoneBodyMeansTheSame};
 
 use cil_lone::{balance_is_a_walk, code_fills_the_file};
+use cs_lex::one_answer;
+use cs_roundtrip_members::members_are_read_back;
 
 /// The text of a lone body's flat form means what the file's bytes mean.
 pub fn text_means_the_same()
@@ -18,6 +20,8 @@ pub fn text_means_the_same()
 {
     balance_is_a_walk();
     code_fills_the_file();
+    one_answer();
+    members_are_read_back();
 }
 
 /// The code of a lone body is what [`flat`](crate::flat) asks for.

@@ -7,4 +7,7 @@ returns c = text_means_the_same_lem (record {
   walks = c.balance_is_a_walk.ensures;
   consecutive = c.code_fills_the_file.ensures.consecutive;
   operands = c.code_fills_the_file.ensures.operands;
+}) (record {
+  lexed = c.one_answer.ensures;
+  members = c.members_are_read_back.ensures;
 })
