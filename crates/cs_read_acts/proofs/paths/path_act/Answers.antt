@@ -1,0 +1,17 @@
+use Rattle.std.proofs.Common.{◌≡◌, rules, Err}
+use Rattle.cs_statements.specs.Actions.{called_or_alone}
+use Rattle.cs_statements.specs.Actions.{act}
+use Rattle.cs_read_calls.specs.Asked.{inner_of}
+use Rattle.cs_read_acts.proofs.Binds.{goes_on, fails_first}
+use Rattle.cs_read_acts.proofs.paths.path_act.Goals as goal
+
+pub returns : goal.returns
+returns g c =
+    let at = c.args.here.now.level.at in
+    goes_on (called_or_alone at.left (inner_of at) c.args.spot c.args.path) (act at.left (inner_of at)) c.args.tokens.now c.in_ok-place.place c.called_or_alone.new.tokens c.act.result c.act.new.tokens c.in_ok-place.ensures c.act.ensures
+
+pub returns-in_err-place : goal.returns-in_err-place
+returns-in_err-place g c =
+    let at = c.args.here.now.level.at in
+    let is : c.from_residual.result ≡ Err c.in_err-place.field-0.0 = search rules in
+    fails_first (called_or_alone at.left (inner_of at) c.args.spot c.args.path) (act at.left (inner_of at)) c.args.tokens.now c.in_err-place.field-0.0 c.from_residual.result c.called_or_alone.new.tokens is c.in_err-place.ensures
