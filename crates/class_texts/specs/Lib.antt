@@ -2,5 +2,6 @@
 pub mod MemberRows
 pub mod Pairs
 pub mod Text
--- Inner facts: members by what an explicit implementation names.
+-- Inner facts: members by what they are, and by what an explicit implementation names.
+pub mod ByKind
 pub mod Keys

@@ -3,6 +3,7 @@
 ghost use Rattle.std.specs.Prelude.{◌≡◌, IfOk, ◌++◌, [], ◌∷◌, map};
 ghost use Rattle.std.specs.Option.{option_map};
 ghost use Rattle.class_texts.specs.MemberRows.{field_row, constant_row, method_row, explicit_row, method_rows, constructor_row, operator_row, member_rows, implementing, plain};
+ghost use Rattle.class_texts.specs.ByKind.{of_field, of_method, of_property, of_indexer, of_maker};
 ghost use Rattle.cs_declared.specs.Names.{joined};
 
 use crate::constants::constant_value;
@@ -27,6 +28,30 @@ pub fn member_rows(
     ensures { IfOk result (λ _. rows.new.items ≡ rows.old.items ++ member_rows types.now home member.now) }
 {
     match member {
+        Member::Field { .. } | Member::Constant { .. } => {
+            of_field(alloc, types, home, member, rows)
+        }
+        Member::Method { .. } => of_method(alloc, types, home, member, rows),
+        Member::Property { .. } => of_property(alloc, types, home, member, rows),
+        Member::Indexer { .. } => of_indexer(alloc, types, home, member, rows),
+        Member::Maker { .. } | Member::Operator { .. } => {
+            of_maker(alloc, types, home, member, rows)
+        }
+        Member::Constructor { .. } | Member::Initializer { .. } => Ok(()),
+    }
+}
+
+// The row of a field or of a constant.
+fn of_field(
+    alloc: Global,
+    types: &Types<'_>,
+    home: Home,
+    member: &Member,
+    rows: &mut Vec<Row>,
+) -> Result<(), NoMemory>
+    ensures { IfOk result (λ _. rows.new.items ≡ rows.old.items ++ of_field types.now home member.now) }
+{
+    match member {
         Member::Field { mods, ty, name, .. } => {
             add(rows, field_row(alloc, types, home, *mods, ty, name)?)
         }
@@ -40,6 +65,21 @@ pub fn member_rows(
             rows,
             constant_row(alloc, types, home, *mods, ty, name, value)?,
         ),
+        _ => Ok(()),
+    }
+}
+
+// The row of a method.
+fn of_method(
+    alloc: Global,
+    types: &Types<'_>,
+    home: Home,
+    member: &Member,
+    rows: &mut Vec<Row>,
+) -> Result<(), NoMemory>
+    ensures { IfOk result (λ _. rows.new.items ≡ rows.old.items ++ of_method types.now home member.now) }
+{
+    match member {
         Member::Method {
             mods,
             result,
@@ -48,21 +88,31 @@ pub fn member_rows(
             params,
             ..
         } => {
+            let returns = result.as_ref();
+            let params = params.items();
             let signature = Signature {
-                returns: result.as_ref(),
+                returns,
                 name,
-                params: params.items(),
+                params,
             };
-            add_method(
-                alloc,
-                types,
-                home,
-                *mods,
-                explicit.as_ref(),
-                signature,
-                rows,
-            )
+            let explicit = explicit.as_ref();
+            add_method(alloc, types, home, *mods, explicit, signature, rows)
         }
+        _ => Ok(()),
+    }
+}
+
+// The rows of a property.
+fn of_property(
+    alloc: Global,
+    types: &Types<'_>,
+    home: Home,
+    member: &Member,
+    rows: &mut Vec<Row>,
+) -> Result<(), NoMemory>
+    ensures { IfOk result (λ _. rows.new.items ≡ rows.old.items ++ of_property types.now home member.now) }
+{
+    match member {
         Member::Property {
             mods,
             ty,
@@ -70,20 +120,25 @@ pub fn member_rows(
             getter,
             setter,
             ..
-        } => property_rows(
-            alloc,
-            types,
-            home,
-            *mods,
-            ty,
-            name,
-            (getter.as_ref(), setter.as_ref()),
-            rows,
-        ),
-        Member::Maker { mods, params, .. } => add(
-            rows,
-            constructor_row(alloc, types, home, *mods, params.items())?,
-        ),
+        } => {
+            let accessors = (getter.as_ref(), setter.as_ref());
+            property_rows(alloc, types, home, *mods, ty, name, accessors, rows)
+        }
+        _ => Ok(()),
+    }
+}
+
+// The rows of an indexer.
+fn of_indexer(
+    alloc: Global,
+    types: &Types<'_>,
+    home: Home,
+    member: &Member,
+    rows: &mut Vec<Row>,
+) -> Result<(), NoMemory>
+    ensures { IfOk result (λ _. rows.new.items ≡ rows.old.items ++ of_indexer types.now home member.now) }
+{
+    match member {
         Member::Indexer {
             mods,
             ty,
@@ -92,26 +147,37 @@ pub fn member_rows(
             getter,
             setter,
             ..
-        } => indexer_rows(
-            alloc,
-            types,
-            home,
-            *mods,
-            (ty, index_ty),
-            name,
-            (getter.as_ref(), setter.as_ref()),
+        } => {
+            let forms = (ty, index_ty);
+            let accessors = (getter.as_ref(), setter.as_ref());
+            indexer_rows(alloc, types, home, *mods, forms, name, accessors, rows)
+        }
+        _ => Ok(()),
+    }
+}
+
+// The row of a constructor or of an operator.
+fn of_maker(
+    alloc: Global,
+    types: &Types<'_>,
+    home: Home,
+    member: &Member,
+    rows: &mut Vec<Row>,
+) -> Result<(), NoMemory>
+    ensures { IfOk result (λ _. rows.new.items ≡ rows.old.items ++ of_maker types.now home member.now) }
+{
+    match member {
+        Member::Maker { mods, params, .. } => add(
             rows,
+            constructor_row(alloc, types, home, *mods, params.items())?,
         ),
         Member::Operator {
-            ty,
-            name,
-            params,
-            ..
+            ty, name, params, ..
         } => add(
             rows,
             operator_row(alloc, types, home, ty, name, params.items())?,
         ),
-        Member::Constructor { .. } | Member::Initializer { .. } => Ok(()),
+        _ => Ok(()),
     }
 }
 
