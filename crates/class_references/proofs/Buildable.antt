@@ -1,26 +1,23 @@
 -- The rows of a text are such as a table is built of.
-use Rattle.std.proofs.Common.{◌≡◌, ◌≢◌, ◌∙◌, ℕ, ◌<◌, ◌^◌, Bool, true, false, cond, List, [], ◌∷◌, map, length, All, Option, Some, None, refl, sym, ap, subst, arith}
+use Rattle.std.proofs.Common.{◌≡◌, ◌≢◌, ◌∙◌, ℕ, ◌<◌, Bool, true, false, cond, List, map, length, All, Option, Some, None, refl, sym, ap, subst, arith}
 use Rattle.std.specs.List.{slice_get}
 use Rattle.std.specs.Option.{option_map}
 use Rattle.std.proofs.lemmas.List.{length-map}
 use Rattle.std.proofs.lemmas.Option.{slice_get-map, slice_get_within, get_or_from_slice_get}
 use Rattle.dc_base.specs.declared.names.TypeId.{TypeId}
-use Rattle.dc_base.specs.declared.names.MemberId.{MemberId}
 use Rattle.dc_base.specs.declared.ty.Prim_.{Prim_}
 use Rattle.class_rows.specs.declared.row.TypeRow.{TypeRow}
 use Rattle.class_rows.specs.declared.row.MemberRow.{MemberRow}
-use Rattle.class_rows.specs.declared.row.Kind.{Kind}
 use Rattle.class_rows.specs.declared.row.Kind.TheVariants as row_kind
 use Rattle.cs_tree.specs.declared.members.Mods.{Mods}
 use Rattle.cs_tree.specs.declared.declarations.Kind.{Kind as TreeKind}
 use Rattle.cs_tree.specs.declared.declarations.Kind.TheVariants as tree_kind
-use Rattle.cs_tree.specs.declared.declarations.Unit.{Unit as WholeText}
 use Rattle.cs_declared.specs.Types.{Placed, Content, Body, Enum, Delegate, types_in}
 use Rattle.class_written.specs.Named.{Known}
 use Rattle.class_written.specs.Forms.{body_kind, is_static_class, enum_kind, underlying, kind_of}
 use Rattle.class_written.specs.TypeRows.{type_row}
-use Rattle.class_texts.specs.Text.{known_types, AreRowsOf}
-use Rattle.class_table.specs.Buildable.{IsTypeRow, IsBuildable}
+use Rattle.class_texts.specs.Text.{known_types}
+use Rattle.class_table.specs.Buildable.{IsTypeRow}
 use Rattle.class_references.specs.Laws.{TextsAreBuildable}
 use Rattle.class_references.proofs.Outers.{types_stand_behind_theirs}
 use Rattle.class_references.proofs.Owners.{all_owned}

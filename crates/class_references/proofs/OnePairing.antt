@@ -1,9 +1,8 @@
 -- The rows of a text are one list each.
-use Rattle.std.proofs.Common.{◌≡◌, ◌⊎◌, ◌∙◌, ℕ, List, [], ◌∷◌, map, All, Some, refl, sym, ap, subst, inl, inr}
+use Rattle.std.proofs.Common.{◌≡◌, ◌∙◌, ℕ, List, [], ◌∷◌, map, All, Some, refl, sym, ap, subst, inl, inr}
 use Rattle.std.specs.List.{slice_get}
 use Rattle.std.proofs.lemmas.List.Elements.{All-head, All-tail}
 use Rattle.dc_base.specs.declared.names.MemberId.{MemberId}
-use Rattle.dc_causes.specs.First.{IsLeast}
 use Rattle.dc_causes.proofs.First.{one_least}
 use Rattle.class_keys.proofs.Items.{one_item}
 use Rattle.class_rows.specs.declared.row.MemberRow.{MemberRow}
@@ -11,7 +10,7 @@ use Rattle.cs_tree.specs.declared.declarations.Unit.{Unit as WholeText}
 use Rattle.cs_declared.specs.Types.{types_in}
 use Rattle.class_written.specs.Named.{Known}
 use Rattle.class_texts.specs.declared.row.Row.{Row}
-use Rattle.class_texts.specs.Pairs.{IsTarget, IsPair, ArePairs}
+use Rattle.class_texts.specs.Pairs.{IsTarget, IsPair}
 use Rattle.class_texts.specs.Text.{known_types, rows_of, AreRowsOf}
 use Rattle.class_table.specs.Rows.{Rows}
 

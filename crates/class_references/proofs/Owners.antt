@@ -1,5 +1,5 @@
 -- Each member of a text is owned by a type of it.
-use Rattle.std.proofs.Common.{◌≡◌, ℕ, ◌+◌, ◌<◌, List, [], ◌∷◌, ◌++◌, map, length, All, Option, Some, None, refl, sym, subst, arith}
+use Rattle.std.proofs.Common.{◌≡◌, ℕ, ◌+◌, ◌<◌, false, List, [], ◌∷◌, ◌++◌, map, length, All, Option, Some, None, refl, sym, subst, arith}
 use Rattle.std.proofs.lemmas.List.Elements.{All-nil, All-cons, All-append, All-map, All-weaker}
 use Rattle.dc_base.specs.declared.names.TypeId.{TypeId}
 use Rattle.dc_base.specs.declared.ty.Ty.{Ty}
@@ -20,7 +20,7 @@ use Rattle.class_written.specs.Named.{Known}
 use Rattle.class_written.specs.Forms.{type_id, ty_of}
 use Rattle.class_texts.specs.declared.row.Home.{Home}
 use Rattle.class_texts.specs.declared.row.Row.{Row}
-use Rattle.class_texts.specs.MemberRows.{plain, by_value, method_rows, getter_row, setter_row, property_rows, indexer_rows, member_rows, all_member_rows, enumerator_row, maker_row, invoke_row, content_rows, rows_from}
+use Rattle.class_texts.specs.MemberRows.{plain, by_value, method_rows, getter_row, setter_row, member_rows, all_member_rows, enumerator_row, maker_row, invoke_row, content_rows, rows_from}
 
 -- a row of this home's type
 abbrev In : Home → Row → Type 0
@@ -58,18 +58,18 @@ method_in types home mods result None name params = refl
 method_in types home mods result (Some e) name params = refl
 
 member_in : (types : List Known) (home : Home) (m : Member) → AreIn home (member_rows types home m)
-member_in types home (member.Field s note mods ty name v) = one_in home _ refl
-member_in types home (member.Constant s note mods ty name v) = one_in home _ refl
-member_in types home (member.Method s note mods result explicit name params block) =
+member_in types home (member.Field _ _ mods ty name v) = one_in home _ refl
+member_in types home (member.Constant _ _ mods ty name v) = one_in home _ refl
+member_in types home (member.Method _ _ mods result explicit name params block) =
     one_in home _ (method_in types home mods result explicit name params)
-member_in types home (member.Property s note mods ty name getter setter) =
+member_in types home (member.Property _ _ mods ty name getter setter) =
     accessors_in home _ _ (getter_in home mods member_kind.Getter [] (ty_of types false ty) name getter) (setter_in home mods member_kind.Setter [] (ty_of types false ty) name setter)
-member_in types home (member.Maker s mods name params) = one_in home _ refl
-member_in types home (member.Indexer s mods ty name index_ty index getter setter) =
+member_in types home (member.Maker _ mods name params) = one_in home _ refl
+member_in types home (member.Indexer _ mods ty name index_ty index getter setter) =
     accessors_in home _ _ (getter_in home mods member_kind.Indexer (by_value (ty_of types false index_ty) ∷ []) (ty_of types false ty) name getter) (setter_in home mods member_kind.Indexer (by_value (ty_of types false index_ty) ∷ []) (ty_of types false ty) name setter)
-member_in types home (member.Operator s ty name params) = one_in home _ refl
-member_in types home (member.Constructor s note mods name params initial block) = none_in home
-member_in types home (member.Initializer s note name block) = none_in home
+member_in types home (member.Operator _ ty name params) = one_in home _ refl
+member_in types home (member.Constructor _ _ mods name params initial block) = none_in home
+member_in types home (member.Initializer _ _ name block) = none_in home
 
 members_in : (types : List Known) (home : Home) (members : List Member) → AreIn home (all_member_rows types home members)
 members_in types home [] = none_in home
@@ -102,4 +102,7 @@ owned_from types k (p ∷ rest) =
     (All-weaker (OwnedBelow ((k + 1) + length rest)) (OwnedBelow (k + length (p ∷ rest))) (λ r lt. omega (arith, lt)) (rows_from types (k + 1) rest) (owned_from types (k + 1) rest))
 
 pub all_owned : (types : List Known) (all : List Placed) → All (λ (row : MemberRow). row.owner.0 < length all) (map (λ (r : Row). r.row) (rows_from types 0 all))
-all_owned types all = All-map (λ (row : MemberRow). row.owner.0 < length all) (λ (r : Row). r.row) (rows_from types 0 all) (owned_from types 0 all)
+all_owned types all =
+    let e : 0 + length all ≡ length all = omega arith in
+    All-map (λ (row : MemberRow). row.owner.0 < length all) (λ (r : Row). r.row) (rows_from types 0 all)
+    (subst (λ (n : ℕ). All (OwnedBelow n) (rows_from types 0 all)) e (owned_from types 0 all))

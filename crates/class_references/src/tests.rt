@@ -203,7 +203,7 @@ fn of_two_faults_the_text_s_comes_first(rt: HostRuntime) -> Result<(), Fail> {
         ),
         (
             "class A : global::C { int f; int f; }",
-            RefFault::Types(TableFault::Duplicate(MemberId(1))),
+            RefFault::Types(TableFault::Duplicate(MemberId(0))),
         ),
         (
             "class A { global::C f; }",

@@ -21,7 +21,7 @@ of_property types home (member.Property _ _ mods ty name getter setter) = map pl
 of_property types home _ = []
 
 abbrev pub of_indexer : List Known → Home → Member → List Row
-of_indexer types home (member.Indexer _ _ mods ty name index_ty index getter setter) =
+of_indexer types home (member.Indexer _ mods ty name index_ty index getter setter) =
     map plain (indexer_rows types home mods ty name index_ty getter setter)
 of_indexer types home _ = []
 
