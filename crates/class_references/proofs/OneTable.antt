@@ -1,5 +1,5 @@
 -- A text has one answer.
-use Rattle.std.proofs.Common.{◌≡◌, ◌∙◌, ℕ, List, Result, Ok, Err, refl, sym, ap, subst}
+use Rattle.std.proofs.Common.{◌≡◌, ℕ, List, [], ◌∷◌, Ok, Err, refl, ap, subst}
 use Rattle.dc_base.specs.declared.names.MemberId.{MemberId}
 use Rattle.dc_causes.specs.Step.{Then, go, Told}
 use Rattle.dc_causes.specs.Answer.{IsSingle}
@@ -29,7 +29,7 @@ one_part ts ms es core = single-least _ _
 one_part ts ms es interfaces = single-rounds _ (λ c. single-least _ _)
 
 one_fault : (ts : List TypeRow) (ms : List MemberRow) (es : List (MemberId × MemberId)) → IsSingle (MakeTable ts ms es)
-one_fault ts ms es = single-in_order (Asked ts ms es) (one_part ts ms es) _
+one_fault ts ms es = single-in_order (Asked ts ms es) (one_part ts ms es) (chains ∷ names ∷ members ∷ bases ∷ core ∷ interfaces ∷ [])
 
 made : (ts : List TypeRow) (ms : List MemberRow) (es : List (MemberId × MemberId)) → IsClassTable ts ms es → MakeTable ts ms es (Ok tt)
 made ts ms es is =

@@ -172,7 +172,10 @@ fn of_maker(
             constructor_row(alloc, types, home, *mods, params.items())?,
         ),
         Member::Operator {
-            ty, name, params, ..
+            ty,
+            name,
+            params,
+            ..
         } => add(
             rows,
             operator_row(alloc, types, home, ty, name, params.items())?,
