@@ -116,86 +116,66 @@ fn due(condition: Condition, token: u32) -> Option<Unmet> {
     })
 }
 
+// A table, a row of zeros of it, and the condition and the token that are due.
+const UNMET: [(Table, &[u8], Condition, u32); 14] = [
+    (
+        Table::FieldMarshal,
+        &[0; 4],
+        Condition::Marshal,
+        0x0D00_0001,
+    ),
+    (
+        Table::DeclSecurity,
+        &[0; 6],
+        Condition::Security,
+        0x0E00_0001,
+    ),
+    (Table::ClassLayout, &[0; 8], Condition::Layout, 0x0F00_0001),
+    (Table::FieldLayout, &[0; 6], Condition::Layout, 0x1000_0001),
+    (Table::EventMap, &[0; 4], Condition::Event, 0x1200_0001),
+    (Table::Event, &[0; 6], Condition::Event, 0x1400_0001),
+    (Table::ModuleRef, &[0; 2], Condition::Modules, 0x1A00_0001),
+    (Table::ImplMap, &[0; 8], Condition::Native, 0x1C00_0001),
+    (Table::FieldRva, &[0; 6], Condition::FieldData, 0x1D00_0001),
+    (Table::File, &[0; 8], Condition::Modules, 0x2600_0001),
+    (
+        Table::ExportedType,
+        &[0; 14],
+        Condition::Modules,
+        0x2700_0001,
+    ),
+    (
+        Table::GenericParam,
+        &[0; 8],
+        Condition::Generic,
+        0x2A00_0001,
+    ),
+    (Table::MethodSpec, &[0; 4], Condition::Generic, 0x2B00_0001),
+    (
+        Table::GenericParamConstraint,
+        &[0; 4],
+        Condition::Generic,
+        0x2C00_0001,
+    ),
+];
+
+// A table, and a row of it that meets all conditions.
+const MET: [(Table, &[u8]); 2] = [
+    (Table::CustomAttribute, &[0; 6]),
+    (Table::ManifestResource, &[0; 12]),
+];
+
 #[test]
 fn a_row_of_these_tables_is_unmet(rt: HostRuntime) -> Result<(), Fail> {
     let alloc = rt.alloc();
     assert_eq!(rt; unmet(&rt, alloc, &[TYPES, ASSEMBLY], &[])?, None);
-    let tables: [(Table, &[u8], Condition, u32); 16] = [
-        (
-            Table::FieldMarshal,
-            &ZERO[..4],
-            Condition::Marshal,
-            0x0D00_0001,
-        ),
-        (
-            Table::DeclSecurity,
-            &ZERO[..6],
-            Condition::Security,
-            0x0E00_0001,
-        ),
-        (
-            Table::ClassLayout,
-            &ZERO[..8],
-            Condition::Layout,
-            0x0F00_0001,
-        ),
-        (
-            Table::FieldLayout,
-            &ZERO[..6],
-            Condition::Layout,
-            0x1000_0001,
-        ),
-        (Table::EventMap, &ZERO[..4], Condition::Event, 0x1200_0001),
-        (Table::Event, &ZERO[..6], Condition::Event, 0x1400_0001),
-        (
-            Table::ModuleRef,
-            &ZERO[..2],
-            Condition::Modules,
-            0x1A00_0001,
-        ),
-        (Table::ImplMap, &ZERO[..8], Condition::Native, 0x1C00_0001),
-        (
-            Table::FieldRva,
-            &ZERO[..6],
-            Condition::FieldData,
-            0x1D00_0001,
-        ),
-        (Table::File, &ZERO[..8], Condition::Modules, 0x2600_0001),
-        (
-            Table::ExportedType,
-            &ZERO[..14],
-            Condition::Modules,
-            0x2700_0001,
-        ),
-        (
-            Table::GenericParam,
-            &ZERO[..8],
-            Condition::Generic,
-            0x2A00_0001,
-        ),
-        (
-            Table::MethodSpec,
-            &ZERO[..4],
-            Condition::Generic,
-            0x2B00_0001,
-        ),
-        (
-            Table::GenericParamConstraint,
-            &ZERO[..4],
-            Condition::Generic,
-            0x2C00_0001,
-        ),
-        (Table::CustomAttribute, &ZERO[..6], Condition::Generic, 0),
-        (Table::ManifestResource, &ZERO[..12], Condition::Generic, 0),
-    ];
-    for (table, bytes, condition, token) in tables {
-        let row = of_rows(table, 1, bytes);
-        let wanted = if token == 0 {
-            None
-        } else {
-            due(condition, token)
-        };
-        assert_eq!(rt; unmet(&rt, alloc, &[TYPES, ASSEMBLY, row], &[])?, wanted);
+    for (table, bytes, condition, token) in UNMET {
+        let tables = [TYPES, ASSEMBLY, of_rows(table, 1, bytes)];
+        assert_eq!(rt; unmet(&rt, alloc, &tables, &[])?, due(condition, token));
+    }
+    for (table, bytes) in MET {
+        let tables = [TYPES, ASSEMBLY, of_rows(table, 1, bytes)];
+        assert_eq!(rt; unmet(&rt, alloc, &tables, &[])?, None);
     }
     Ok(())
 }
@@ -210,6 +190,27 @@ fn one_assembly_is_wanted(rt: HostRuntime) -> Result<(), Fail> {
     assert_eq!(rt; unmet(&rt, alloc, &[TYPES, two], &[])?, second);
     Ok(())
 }
+
+// A type whose base is row 1 of TypeRef.
+const DERIVED: Filled<'static> = Filled {
+    table: Table::TypeDef,
+    count: 2,
+    bytes: &[
+        0, 0, 0, 0, 0, 0, 0, 0, 0, 0, 1, 0, 1, 0, //
+        0, 0, 0, 0, 0, 0, 0, 0, 5, 0, 1, 0, 1, 0,
+    ],
+};
+
+// A type whose base is row 3 of TypeDef, which is System.MulticastDelegate.
+const OWN: Filled<'static> = Filled {
+    table: Table::TypeDef,
+    count: 3,
+    bytes: &[
+        0, 0, 0, 0, 0, 0, 0, 0, 0, 0, 1, 0, 1, 0, //
+        0, 0, 0, 0, 0, 0, 0, 0, 12, 0, 1, 0, 1, 0, //
+        0, 0, 0, 0, 8, 0, 1, 0, 0, 0, 1, 0, 2, 0,
+    ],
+};
 
 #[test]
 fn methods_are_plain_unless_a_delegate_has_them(rt: HostRuntime) -> Result<(), Fail> {
@@ -228,46 +229,21 @@ fn methods_are_plain_unless_a_delegate_has_them(rt: HostRuntime) -> Result<(), F
     let delegate = of_rows(Table::TypeRef, 1, &[0, 0, 8, 0, 1, 0]);
     let other_space = of_rows(Table::TypeRef, 1, &[0, 0, 8, 0, 2, 0]);
     let other_name = of_rows(Table::TypeRef, 1, &[0, 0, 9, 0, 1, 0]);
-    // A type whose base is row 1 of TypeRef, and one whose base is row 3 of TypeDef, which is System.MulticastDelegate.
-    let derived = of_rows(
-        Table::TypeDef,
-        2,
-        &[
-            0, 0, 0, 0, 0, 0, 0, 0, 0, 0, 1, 0, 1, 0, //
-            0, 0, 0, 0, 0, 0, 0, 0, 5, 0, 1, 0, 1, 0,
-        ],
-    );
-    let own = of_rows(
-        Table::TypeDef,
-        3,
-        &[
-            0, 0, 0, 0, 0, 0, 0, 0, 0, 0, 1, 0, 1, 0, //
-            0, 0, 0, 0, 0, 0, 0, 0, 12, 0, 1, 0, 1, 0, //
-            0, 0, 0, 0, 8, 0, 1, 0, 0, 0, 1, 0, 2, 0,
-        ],
-    );
     for (flags, wanted) in rows {
         let [low, high] = u16::to_le_bytes(flags);
         let bytes = [0, 0, 0, 0, low, high, 0, 0, 0, 0, 0, 0, 1, 0];
         let method = of_rows(Table::MethodDef, 1, &bytes);
-        assert_eq!(rt; unmet(&rt, alloc, &[TYPES, ASSEMBLY, method], &[])?, wanted);
-        assert_eq!(rt;
-            unmet(&rt, alloc, &[derived, delegate, ASSEMBLY, method], &[])?,
-            None
-        );
-        assert_eq!(rt;
-            unmet(&rt, alloc, &[derived, other_space, ASSEMBLY, method], &[])?,
-            wanted
-        );
-        assert_eq!(rt;
-            unmet(&rt, alloc, &[derived, other_name, ASSEMBLY, method], &[])?,
-            wanted
-        );
-        assert_eq!(rt;
-            unmet(&rt, alloc, &[derived, ASSEMBLY, method], &[])?,
-            wanted
-        );
-        assert_eq!(rt; unmet(&rt, alloc, &[own, ASSEMBLY, method], &[])?, None);
+        let cases: [(&[Filled], Option<Unmet>); 6] = [
+            (&[TYPES, ASSEMBLY, method], wanted),
+            (&[DERIVED, delegate, ASSEMBLY, method], None),
+            (&[DERIVED, other_space, ASSEMBLY, method], wanted),
+            (&[DERIVED, other_name, ASSEMBLY, method], wanted),
+            (&[DERIVED, ASSEMBLY, method], wanted),
+            (&[OWN, ASSEMBLY, method], None),
+        ];
+        for (tables, wanted) in cases {
+            assert_eq!(rt; unmet(&rt, alloc, tables, &[])?, wanted);
+        }
     }
     Ok(())
 }
@@ -293,78 +269,82 @@ fn types_by_signature_that_are_reached_are_arrays(rt: HostRuntime) -> Result<(),
     Ok(())
 }
 
+// Two methods: of the first the code is plain, that of the second is native.
+const METHODS: Filled<'static> = Filled {
+    table: Table::MethodDef,
+    count: 2,
+    bytes: &[
+        0, 0, 0, 0, 0, 0, 0, 0, 0, 0, 0, 0, 1, 0, //
+        0, 0, 0, 0, 1, 0, 0, 0, 0, 0, 0, 0, 1, 0,
+    ],
+};
+
+// Types, outside of which stand a field and the first method.
+const FIELD_OUTSIDE: Filled<'static> = Filled {
+    table: Table::TypeDef,
+    count: 2,
+    bytes: &[
+        0, 0, 0, 0, 0, 0, 0, 0, 0, 0, 1, 0, 1, 0, //
+        0, 0, 0, 0, 0, 0, 0, 0, 0, 0, 2, 0, 2, 0,
+    ],
+};
+
+// Types, outside of which stands the first method alone.
+const METHOD_OUTSIDE: Filled<'static> = Filled {
+    table: Table::TypeDef,
+    count: 2,
+    bytes: &[
+        0, 0, 0, 0, 0, 0, 0, 0, 0, 0, 1, 0, 1, 0, //
+        0, 0, 0, 0, 0, 0, 0, 0, 0, 0, 1, 0, 2, 0,
+    ],
+};
+
+// The module's own type, which has the second method.
+const SECOND_METHOD: Filled<'static> = Filled {
+    table: Table::TypeDef,
+    count: 1,
+    bytes: &[0, 0, 0, 0, 0, 0, 0, 0, 0, 0, 1, 0, 2, 0],
+};
+
 #[test]
-fn first_failure_counts(rt: HostRuntime) -> Result<(), Fail> {
+fn first_failing_member_counts(rt: HostRuntime) -> Result<(), Fail> {
     let alloc = rt.alloc();
     let field = of_rows(Table::Field, 1, &ZERO[..6]);
-    // Two methods: of the first the code is plain, that of the second is native.
-    let methods = of_rows(
-        Table::MethodDef,
-        2,
-        &[
-            0, 0, 0, 0, 0, 0, 0, 0, 0, 0, 0, 0, 1, 0, //
-            0, 0, 0, 0, 1, 0, 0, 0, 0, 0, 0, 0, 1, 0,
-        ],
-    );
-    // Outside of types stand the field and the first method, the first method alone, or the second one.
-    let one = of_rows(
-        Table::TypeDef,
-        2,
-        &[
-            0, 0, 0, 0, 0, 0, 0, 0, 0, 0, 1, 0, 1, 0, //
-            0, 0, 0, 0, 0, 0, 0, 0, 0, 0, 2, 0, 2, 0,
-        ],
-    );
-    let one_method = of_rows(
-        Table::TypeDef,
-        2,
-        &[
-            0, 0, 0, 0, 0, 0, 0, 0, 0, 0, 1, 0, 1, 0, //
-            0, 0, 0, 0, 0, 0, 0, 0, 0, 0, 1, 0, 2, 0,
-        ],
-    );
-    let behind = of_rows(
-        Table::TypeDef,
-        1,
-        &[0, 0, 0, 0, 0, 0, 0, 0, 0, 0, 1, 0, 2, 0],
-    );
     let event = of_rows(Table::Event, 1, &ZERO[..6]);
+    let in_module = due(Condition::ModuleMember, 0x0400_0001);
+    let method_in_module = due(Condition::ModuleMember, 0x0600_0001);
+    let native = due(Condition::Native, 0x0600_0002);
+    let rows: [(&[Filled], Option<Unmet>); 4] = [
+        (&[FIELD_OUTSIDE, field, METHODS], in_module),
+        (&[METHOD_OUTSIDE, METHODS], method_in_module),
+        (&[SECOND_METHOD, METHODS], native),
+        (&[TYPES, METHODS, event], native),
+    ];
+    for (tables, wanted) in rows {
+        assert_eq!(rt; unmet(&rt, alloc, tables, &[])?, wanted);
+    }
+    Ok(())
+}
+
+#[test]
+fn first_failing_table_counts(rt: HostRuntime) -> Result<(), Fail> {
+    let alloc = rt.alloc();
+    let field = of_rows(Table::Field, 1, &ZERO[..6]);
     let marshal = of_rows(Table::FieldMarshal, 1, &ZERO[..4]);
     let security = of_rows(Table::DeclSecurity, 1, &ZERO[..6]);
     let module = of_rows(Table::ModuleRef, 1, &ZERO[..2]);
     let import = of_rows(Table::ImplMap, 1, &ZERO[..8]);
     let file = of_rows(Table::File, 1, &ZERO[..8]);
     let generic = of_rows(Table::GenericParam, 1, &ZERO[..8]);
-    let rows: [(&[Filled], Option<Unmet>); 8] = [
-        (
-            &[one, field, methods],
-            due(Condition::ModuleMember, 0x0400_0001),
-        ),
-        (
-            &[one_method, methods],
-            due(Condition::ModuleMember, 0x0600_0001),
-        ),
-        (&[behind, methods], due(Condition::Native, 0x0600_0002)),
-        (
-            &[TYPES, methods, event],
-            due(Condition::Native, 0x0600_0002),
-        ),
-        (
-            &[TYPES, field, security, marshal],
-            due(Condition::Marshal, 0x0D00_0001),
-        ),
-        (
-            &[TYPES, import, module],
-            due(Condition::Modules, 0x1A00_0001),
-        ),
-        (
-            &[TYPES, generic, file],
-            due(Condition::Modules, 0x2000_0001),
-        ),
-        (
-            &[TYPES, ASSEMBLY, generic, file],
-            due(Condition::Modules, 0x2600_0001),
-        ),
+    let marshalled = due(Condition::Marshal, 0x0D00_0001);
+    let module_named = due(Condition::Modules, 0x1A00_0001);
+    let no_assembly = due(Condition::Modules, 0x2000_0001);
+    let file_named = due(Condition::Modules, 0x2600_0001);
+    let rows: [(&[Filled], Option<Unmet>); 4] = [
+        (&[TYPES, field, security, marshal], marshalled),
+        (&[TYPES, import, module], module_named),
+        (&[TYPES, generic, file], no_assembly),
+        (&[TYPES, ASSEMBLY, generic, file], file_named),
     ];
     for (tables, wanted) in rows {
         assert_eq!(rt; unmet(&rt, alloc, tables, &[])?, wanted);
