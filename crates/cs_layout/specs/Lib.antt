@@ -2,3 +2,5 @@
 pub mod Pieces
 pub mod Words
 pub mod Layout
+-- inner facts
+pub mod Kinds

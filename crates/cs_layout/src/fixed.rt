@@ -1,8 +1,9 @@
 // What stands between the parts of a tree.
 
-ghost use Rattle.std.specs.Prelude.{◌≡◌, OnOk};
+ghost use Rattle.std.specs.Prelude.{◌≡◌, IsTrue, OnOk};
 ghost use Rattle.std.specs.List.{flat_map};
 ghost use Rattle.std.specs.String.{string_bytes};
+ghost use Rattle.cs_layout.specs.Kinds.{is_operand_word, is_word};
 ghost use Rattle.cs_layout.specs.Pieces.{piece_bytes, followed};
 ghost use Rattle.cs_layout.specs.Words.{fixed};
 
@@ -69,7 +70,8 @@ pub enum Fixed {
     Finally,
 }
 
-#[tactic(auto, unfolding(crate::specs::Words::fixed), using(crate::proofs::Following::global_bytes))]
+// Signs, and what is between them; else words.
+#[tactic(auto, unfolding(crate::specs::Words::fixed))]
 fn text(part: Fixed) -> &'static str
     ensures { result.now ≡ flat_map piece_bytes (fixed part) }
 {
@@ -90,6 +92,54 @@ fn text(part: Fixed) -> &'static str
         Fixed::Question => " ? ",
         Fixed::Otherwise => " : ",
         Fixed::Arrow => ") => {\n",
+        Fixed::LabelEnd => ": ;",
+        Fixed::DoEnd => ");",
+        Fixed::Then => "; ",
+        Fixed::CaseEnd => ":",
+        _ => word(part),
+    }
+}
+
+// Words of statements, or of what stands in them.
+#[tactic(auto, unfolding(crate::specs::Words::fixed))]
+fn word(part: Fixed) -> &'static str
+    requires { IsTrue (is_word part) }
+    ensures { result.now ≡ flat_map piece_bytes (fixed part) }
+{
+    match part {
+        Fixed::Goto => "goto ",
+        Fixed::Break => "break;",
+        Fixed::Continue => "continue;",
+        Fixed::ReturnNothing => "return;",
+        Fixed::Return => "return ",
+        Fixed::Rethrow => "throw;",
+        Fixed::Throw => "throw ",
+        Fixed::If => "if (",
+        Fixed::Else => "else",
+        Fixed::While => "while (",
+        Fixed::Do => "do",
+        Fixed::For => "for (; ",
+        Fixed::Foreach => "foreach (",
+        Fixed::In => " in ",
+        Fixed::Using => "using (",
+        Fixed::Lock => "lock (",
+        Fixed::Switch => "switch (",
+        Fixed::Case => "case ",
+        Fixed::Default => "default:",
+        Fixed::Try => "try",
+        Fixed::Catch => "catch (",
+        Fixed::Finally => "finally",
+        _ => operand_word(part),
+    }
+}
+
+// Words of expressions, types and parameters.
+#[tactic(auto, unfolding(crate::specs::Words::fixed), using(crate::proofs::Following::global_bytes))]
+fn operand_word(part: Fixed) -> &'static str
+    requires { IsTrue (is_operand_word part) }
+    ensures { result.now ≡ flat_map piece_bytes (fixed part) }
+{
+    match part {
         Fixed::Global => "global::",
         Fixed::This => "this",
         Fixed::Base => "base.",
@@ -104,32 +154,7 @@ fn text(part: Fixed) -> &'static str
         Fixed::True => "true",
         Fixed::False => "false",
         Fixed::Null => "null",
-        Fixed::LabelEnd => ": ;",
-        Fixed::Goto => "goto ",
-        Fixed::Break => "break;",
-        Fixed::Continue => "continue;",
-        Fixed::ReturnNothing => "return;",
-        Fixed::Return => "return ",
-        Fixed::Rethrow => "throw;",
-        Fixed::Throw => "throw ",
-        Fixed::If => "if (",
-        Fixed::Else => "else",
-        Fixed::While => "while (",
-        Fixed::Do => "do",
-        Fixed::DoEnd => ");",
-        Fixed::For => "for (; ",
-        Fixed::Then => "; ",
-        Fixed::Foreach => "foreach (",
-        Fixed::In => " in ",
-        Fixed::Using => "using (",
-        Fixed::Lock => "lock (",
-        Fixed::Switch => "switch (",
-        Fixed::Case => "case ",
-        Fixed::Default => "default:",
-        Fixed::CaseEnd => ":",
-        Fixed::Try => "try",
-        Fixed::Catch => "catch (",
-        Fixed::Finally => "finally",
+        _ => unreachable!(),
     }
 }
 
