@@ -1,11 +1,13 @@
 // Trees that are the same.
 
 ghost use Rattle.std.specs.Prelude.{◌≡◌, ◌↔◌, IsTrue};
+ghost use Rattle.cs_same.specs.Kinds.{binds, branches, calls_object, calls_static, casts, converts, decides, delegates, locks, loops, makes, names, names_place, pairs, sets, switches, tries, writes_lambda};
 
-use cs_body::{
-    BinaryOp, Body, Case, Catch, Expr, Home, Literal, Role, Section, Stmt, UnaryOp, Var,
+use crate::parts::{
+    same_binary, same_cases, same_class, same_home, same_literal, same_member, same_numbers,
+    same_ty, same_unary, same_var, same_vars,
 };
-use dc_base::{MemberId, Seq, Ty, TypeId};
+use cs_body::{Body, Catch, Expr, Section, Stmt};
 
 pub fn same_body(body: &Body, other: &Body) -> bool
     ensures { IsTrue result ↔ (body.now ≡ other.now) }
@@ -13,150 +15,6 @@ pub fn same_body(body: &Body, other: &Body) -> bool
     same_home(&body.home, &other.home)
         && same_vars(body.vars.items(), other.vars.items())
         && same_block(body.stmts.as_slice(), other.stmts.as_slice())
-}
-
-pub fn same_home(home: &Home, other: &Home) -> bool
-    ensures { IsTrue result ↔ (home.now ≡ other.now) }
-{
-    same_owner(home.owner, other.owner)
-        && home.instance == other.instance
-        && home.constructs == other.constructs
-        && same_ty(&home.result, &other.result)
-}
-
-pub fn same_variable(variable: &Var, other: &Var) -> bool
-    ensures { IsTrue result ↔ (variable.now ≡ other.now) }
-{
-    same_ty(&variable.ty, &other.ty) && same_role(&variable.role, &other.role)
-}
-
-pub fn same_role(role: &Role, other: &Role) -> bool
-    ensures { IsTrue result ↔ (role.now ≡ other.now) }
-{
-    match role {
-        Role::Param => matches!(other, Role::Param),
-        Role::Local => matches!(other, Role::Local),
-        Role::SlotVar => matches!(other, Role::SlotVar),
-        Role::Join => matches!(other, Role::Join),
-        Role::Captured { maker, field } => match other {
-            Role::Captured {
-                maker: maker_,
-                field: field_,
-            } => same_member(*maker, *maker_) && same_member(*field, *field_),
-            _ => false,
-        },
-    }
-}
-
-fn same_vars(vars: &[Var], other: &[Var]) -> bool
-    ensures { IsTrue result ↔ (vars.now ≡ other.now) }
-{
-    if vars.len() != other.len() {
-        return false;
-    }
-    for index in 0..vars.len() {
-        if !same_variable(&vars[index], &other[index]) {
-            return false;
-        }
-    }
-    true
-}
-
-pub fn same_literal(literal: &Literal, other: &Literal) -> bool
-    ensures { IsTrue result ↔ (literal.now ≡ other.now) }
-{
-    match literal {
-        Literal::Bool(value) => matches!(other, Literal::Bool(value_) if *value == *value_),
-        Literal::Char(unit) => matches!(other, Literal::Char(unit_) if *unit == *unit_),
-        Literal::Int(value) => matches!(other, Literal::Int(value_) if *value == *value_),
-        Literal::Uint(value) => matches!(other, Literal::Uint(value_) if *value == *value_),
-        Literal::Long(value) => matches!(other, Literal::Long(value_) if *value == *value_),
-        Literal::Ulong(value) => matches!(other, Literal::Ulong(value_) if *value == *value_),
-        Literal::Text(units) => match other {
-            Literal::Text(units_) => same_units(units, units_),
-            _ => false,
-        },
-    }
-}
-
-pub fn same_case(case: &Case, other: &Case) -> bool
-    ensures { IsTrue result ↔ (case.now ≡ other.now) }
-{
-    match case {
-        Case::Of(value) => match other {
-            Case::Of(value_) => same_literal(value, value_),
-            Case::Otherwise => false,
-        },
-        Case::Otherwise => matches!(other, Case::Otherwise),
-    }
-}
-
-fn same_ty(ty: &Ty, other: &Ty) -> bool
-    ensures { IsTrue result ↔ (ty.now ≡ other.now) }
-{
-    *ty == *other
-}
-
-fn same_member(member: MemberId, other: MemberId) -> bool
-    ensures { IsTrue result ↔ (member ≡ other) }
-{
-    member == other
-}
-
-fn same_class(class: TypeId, other: TypeId) -> bool
-    ensures { IsTrue result ↔ (class ≡ other) }
-{
-    class == other
-}
-
-fn same_owner(owner: Option<TypeId>, other: Option<TypeId>) -> bool
-    ensures { IsTrue result ↔ (owner ≡ other) }
-{
-    owner == other
-}
-
-fn same_var(var: Option<u32>, other: Option<u32>) -> bool
-    ensures { IsTrue result ↔ (var ≡ other) }
-{
-    var == other
-}
-
-fn same_unary(op: UnaryOp, other: UnaryOp) -> bool
-    ensures { IsTrue result ↔ (op ≡ other) }
-{
-    op == other
-}
-
-fn same_binary(op: BinaryOp, other: BinaryOp) -> bool
-    ensures { IsTrue result ↔ (op ≡ other) }
-{
-    op == other
-}
-
-fn same_units(units: &Seq<u16>, other: &Seq<u16>) -> bool
-    ensures { IsTrue result ↔ (units.now ≡ other.now) }
-{
-    units.items() == other.items()
-}
-
-fn same_numbers(numbers: &Seq<u32>, other: &Seq<u32>) -> bool
-    ensures { IsTrue result ↔ (numbers.now ≡ other.now) }
-{
-    numbers.items() == other.items()
-}
-
-fn same_cases(cases: &[Case], other: &[Case]) -> bool
-    ensures { IsTrue result ↔ (cases.now ≡ other.now) }
-{
-    if cases.len() != other.len() {
-        return false;
-    }
-    for index in 0..cases.len() {
-        if !same_case(&cases[index], &other[index]) {
-            return false;
-        }
-    }
-    true
 }
 
 #[cycle(sameness)]
@@ -178,6 +36,47 @@ pub fn same_catch(catch: &Catch, other: &Catch) -> bool
 
 #[cycle(sameness)]
 pub fn same_stmt(stmt: &Stmt, other: &Stmt) -> bool
+    ensures { IsTrue result ↔ (stmt.now ≡ other.now) }
+{
+    match stmt {
+        Stmt::Label { label } => match other {
+            Stmt::Label { label: label_ } => *label == *label_,
+            _ => false,
+        },
+        Stmt::Goto { label } => match other {
+            Stmt::Goto { label: label_ } => *label == *label_,
+            _ => false,
+        },
+        Stmt::Break => matches!(other, Stmt::Break),
+        Stmt::Continue => matches!(other, Stmt::Continue),
+        Stmt::Return { value: None } => matches!(other, Stmt::Return { value: None }),
+        Stmt::Return { value: Some(value) } => match other {
+            Stmt::Return {
+                value: Some(value_),
+            } => same_expr(value, value_),
+            _ => false,
+        },
+        Stmt::Throw { value } => match other {
+            Stmt::Throw { value: value_ } => same_expr(value, value_),
+            _ => false,
+        },
+        Stmt::Rethrow => matches!(other, Stmt::Rethrow),
+        Stmt::Decl { .. } | Stmt::Set { .. } | Stmt::SetOp { .. } | Stmt::Do { .. } => same_setting(
+            stmt, other,
+        ),
+        Stmt::If { .. } => same_if(stmt, other),
+        Stmt::Foreach { .. } | Stmt::Using { .. } => same_binding(stmt, other),
+        Stmt::Lock { .. } => same_lock(stmt, other),
+        Stmt::Switch { .. } | Stmt::TextSwitch { .. } => same_switch(stmt, other),
+        Stmt::While { .. } | Stmt::DoWhile { .. } | Stmt::For { .. } => same_loop(stmt, other),
+        Stmt::Try { .. } => same_try(stmt, other),
+    }
+}
+
+// A statement that sets a place, or does a call.
+#[cycle(sameness)]
+fn same_setting(stmt: &Stmt, other: &Stmt) -> bool
+    requires { IsTrue (sets stmt.now) }
     ensures { IsTrue result ↔ (stmt.now ≡ other.now) }
 {
     match stmt {
@@ -207,14 +106,17 @@ pub fn same_stmt(stmt: &Stmt, other: &Stmt) -> bool
             Stmt::Do { call: call_ } => same_expr(call, call_),
             _ => false,
         },
-        Stmt::Label { label } => match other {
-            Stmt::Label { label: label_ } => *label == *label_,
-            _ => false,
-        },
-        Stmt::Goto { label } => match other {
-            Stmt::Goto { label: label_ } => *label == *label_,
-            _ => false,
-        },
+        _ => unreachable!(),
+    }
+}
+
+// A branch.
+#[cycle(sameness)]
+fn same_if(stmt: &Stmt, other: &Stmt) -> bool
+    requires { IsTrue (branches stmt.now) }
+    ensures { IsTrue result ↔ (stmt.now ≡ other.now) }
+{
+    match stmt {
         Stmt::If {
             test,
             block,
@@ -241,30 +143,17 @@ pub fn same_stmt(stmt: &Stmt, other: &Stmt) -> bool
                 && same_block(otherwise.as_slice(), otherwise_.as_slice()),
             _ => false,
         },
-        Stmt::While { test, block } => match other {
-            Stmt::While {
-                test: test_,
-                block: block_,
-            } => same_expr(test, test_) && same_block(block.as_slice(), block_.as_slice()),
-            _ => false,
-        },
-        Stmt::DoWhile { block, test } => match other {
-            Stmt::DoWhile {
-                block: block_,
-                test: test_,
-            } => same_block(block.as_slice(), block_.as_slice()) && same_expr(test, test_),
-            _ => false,
-        },
-        Stmt::For { test, step, block } => match other {
-            Stmt::For {
-                test: test_,
-                step: step_,
-                block: block_,
-            } => same_expr(test, test_)
-                && same_stmt(step.get(), step_.get())
-                && same_block(block.as_slice(), block_.as_slice()),
-            _ => false,
-        },
+        _ => unreachable!(),
+    }
+}
+
+// A block with a variable of its own.
+#[cycle(sameness)]
+fn same_binding(stmt: &Stmt, other: &Stmt) -> bool
+    requires { IsTrue (binds stmt.now) }
+    ensures { IsTrue result ↔ (stmt.now ≡ other.now) }
+{
+    match stmt {
         Stmt::Foreach { var, array, block } => match other {
             Stmt::Foreach {
                 var: var_,
@@ -292,6 +181,17 @@ pub fn same_stmt(stmt: &Stmt, other: &Stmt) -> bool
                 && same_block(block.as_slice(), block_.as_slice()),
             _ => false,
         },
+        _ => unreachable!(),
+    }
+}
+
+// A block that holds a lock.
+#[cycle(sameness)]
+fn same_lock(stmt: &Stmt, other: &Stmt) -> bool
+    requires { IsTrue (locks stmt.now) }
+    ensures { IsTrue result ↔ (stmt.now ≡ other.now) }
+{
+    match stmt {
         Stmt::Lock {
             object,
             enter,
@@ -309,6 +209,17 @@ pub fn same_stmt(stmt: &Stmt, other: &Stmt) -> bool
                 && same_block(block.as_slice(), block_.as_slice()),
             _ => false,
         },
+        _ => unreachable!(),
+    }
+}
+
+// A choice between sections.
+#[cycle(sameness)]
+fn same_switch(stmt: &Stmt, other: &Stmt) -> bool
+    requires { IsTrue (switches stmt.now) }
+    ensures { IsTrue result ↔ (stmt.now ≡ other.now) }
+{
+    match stmt {
         Stmt::Switch { value, sections } => match other {
             Stmt::Switch {
                 value: value_,
@@ -331,6 +242,52 @@ pub fn same_stmt(stmt: &Stmt, other: &Stmt) -> bool
                 && same_sections(sections.as_slice(), sections_.as_slice()),
             _ => false,
         },
+        _ => unreachable!(),
+    }
+}
+
+// A loop.
+#[cycle(sameness)]
+fn same_loop(stmt: &Stmt, other: &Stmt) -> bool
+    requires { IsTrue (loops stmt.now) }
+    ensures { IsTrue result ↔ (stmt.now ≡ other.now) }
+{
+    match stmt {
+        Stmt::While { test, block } => match other {
+            Stmt::While {
+                test: test_,
+                block: block_,
+            } => same_expr(test, test_) && same_block(block.as_slice(), block_.as_slice()),
+            _ => false,
+        },
+        Stmt::DoWhile { block, test } => match other {
+            Stmt::DoWhile {
+                block: block_,
+                test: test_,
+            } => same_block(block.as_slice(), block_.as_slice()) && same_expr(test, test_),
+            _ => false,
+        },
+        Stmt::For { test, step, block } => match other {
+            Stmt::For {
+                test: test_,
+                step: step_,
+                block: block_,
+            } => same_expr(test, test_)
+                && same_stmt(step.get(), step_.get())
+                && same_block(block.as_slice(), block_.as_slice()),
+            _ => false,
+        },
+        _ => unreachable!(),
+    }
+}
+
+// A block with what takes its exceptions.
+#[cycle(sameness)]
+fn same_try(stmt: &Stmt, other: &Stmt) -> bool
+    requires { IsTrue (tries stmt.now) }
+    ensures { IsTrue result ↔ (stmt.now ≡ other.now) }
+{
+    match stmt {
         Stmt::Try {
             block,
             catches,
@@ -358,20 +315,7 @@ pub fn same_stmt(stmt: &Stmt, other: &Stmt) -> bool
                 && same_block(finally.as_slice(), finally_.as_slice()),
             _ => false,
         },
-        Stmt::Break => matches!(other, Stmt::Break),
-        Stmt::Continue => matches!(other, Stmt::Continue),
-        Stmt::Return { value: None } => matches!(other, Stmt::Return { value: None }),
-        Stmt::Return { value: Some(value) } => match other {
-            Stmt::Return {
-                value: Some(value_),
-            } => same_expr(value, value_),
-            _ => false,
-        },
-        Stmt::Throw { value } => match other {
-            Stmt::Throw { value: value_ } => same_expr(value, value_),
-            _ => false,
-        },
-        Stmt::Rethrow => matches!(other, Stmt::Rethrow),
+        _ => unreachable!(),
     }
 }
 
@@ -380,11 +324,45 @@ pub fn same_expr(expr: &Expr, other: &Expr) -> bool
     ensures { IsTrue result ↔ (expr.now ≡ other.now) }
 {
     match expr {
+        Expr::Null => matches!(other, Expr::Null),
+        Expr::This => matches!(other, Expr::This),
+        Expr::TruthToInt { test } => match other {
+            Expr::TruthToInt { test: test_ } => same_expr(test.get(), test_.get()),
+            _ => false,
+        },
+        Expr::Literal { .. } | Expr::Default { .. } | Expr::Var { .. } | Expr::Static { .. } =>
+            same_leaf(expr, other),
+        Expr::Field { .. } | Expr::Element { .. } | Expr::Length { .. } | Expr::Lend { .. } =>
+            same_place(expr, other),
+        Expr::Call { object: None, .. } => same_static_call(expr, other),
+        Expr::Call {
+            object: Some(_),
+            ..
+        } => same_object_call(expr, other),
+        Expr::New { .. } | Expr::NewArray { .. } => same_made(expr, other),
+        Expr::Delegate { .. } => same_delegate(expr, other),
+        Expr::Lambda { .. } => same_lambda(expr, other),
+        Expr::Cast { .. } | Expr::AsClass { .. } | Expr::IsClass { .. } | Expr::Box { .. } =>
+            same_cast(expr, other),
+        Expr::Unary { .. } | Expr::Convert { .. } | Expr::Unbox { .. } => same_converted(
+            expr, other,
+        ),
+        Expr::Binary { .. } | Expr::RefEqual { .. } => same_pair(expr, other),
+        Expr::Cond { .. } | Expr::And { .. } | Expr::Or { .. } => same_condition(expr, other),
+    }
+}
+
+// A literal, or what a name stands for.
+#[cycle(sameness)]
+fn same_leaf(expr: &Expr, other: &Expr) -> bool
+    requires { IsTrue (names expr.now) }
+    ensures { IsTrue result ↔ (expr.now ≡ other.now) }
+{
+    match expr {
         Expr::Literal { value } => match other {
             Expr::Literal { value: value_ } => same_literal(value, value_),
             _ => false,
         },
-        Expr::Null => matches!(other, Expr::Null),
         Expr::Default { ty } => match other {
             Expr::Default { ty: ty_ } => same_ty(ty, ty_),
             _ => false,
@@ -393,16 +371,26 @@ pub fn same_expr(expr: &Expr, other: &Expr) -> bool
             Expr::Var { var: var_ } => *var == *var_,
             _ => false,
         },
-        Expr::This => matches!(other, Expr::This),
+        Expr::Static { field } => match other {
+            Expr::Static { field: field_ } => same_member(*field, *field_),
+            _ => false,
+        },
+        _ => unreachable!(),
+    }
+}
+
+// A place, or what is asked of one.
+#[cycle(sameness)]
+fn same_place(expr: &Expr, other: &Expr) -> bool
+    requires { IsTrue (names_place expr.now) }
+    ensures { IsTrue result ↔ (expr.now ≡ other.now) }
+{
+    match expr {
         Expr::Field { object, field } => match other {
             Expr::Field {
                 object: object_,
                 field: field_,
             } => same_expr(object.get(), object_.get()) && same_member(*field, *field_),
-            _ => false,
-        },
-        Expr::Static { field } => match other {
-            Expr::Static { field: field_ } => same_member(*field, *field_),
             _ => false,
         },
         Expr::Element { array, index } => match other {
@@ -416,6 +404,24 @@ pub fn same_expr(expr: &Expr, other: &Expr) -> bool
             Expr::Length { array: array_ } => same_expr(array.get(), array_.get()),
             _ => false,
         },
+        Expr::Lend { as_out, place } => match other {
+            Expr::Lend {
+                as_out: as_out_,
+                place: place_,
+            } => *as_out == *as_out_ && same_expr(place.get(), place_.get()),
+            _ => false,
+        },
+        _ => unreachable!(),
+    }
+}
+
+// A call of a static method.
+#[cycle(sameness)]
+fn same_static_call(expr: &Expr, other: &Expr) -> bool
+    requires { IsTrue (calls_static expr.now) }
+    ensures { IsTrue result ↔ (expr.now ≡ other.now) }
+{
+    match expr {
         Expr::Call {
             object: None,
             method,
@@ -432,6 +438,17 @@ pub fn same_expr(expr: &Expr, other: &Expr) -> bool
                 && same_exprs(args.as_slice(), args_.as_slice()),
             _ => false,
         },
+        _ => unreachable!(),
+    }
+}
+
+// A call on an object.
+#[cycle(sameness)]
+fn same_object_call(expr: &Expr, other: &Expr) -> bool
+    requires { IsTrue (calls_object expr.now) }
+    ensures { IsTrue result ↔ (expr.now ≡ other.now) }
+{
+    match expr {
         Expr::Call {
             object: Some(object),
             method,
@@ -449,6 +466,17 @@ pub fn same_expr(expr: &Expr, other: &Expr) -> bool
                 && same_exprs(args.as_slice(), args_.as_slice()),
             _ => false,
         },
+        _ => unreachable!(),
+    }
+}
+
+// An object or an array that is made.
+#[cycle(sameness)]
+fn same_made(expr: &Expr, other: &Expr) -> bool
+    requires { IsTrue (makes expr.now) }
+    ensures { IsTrue result ↔ (expr.now ≡ other.now) }
+{
+    match expr {
         Expr::New { maker, args } => match other {
             Expr::New {
                 maker: maker_,
@@ -463,6 +491,17 @@ pub fn same_expr(expr: &Expr, other: &Expr) -> bool
             } => same_ty(element, element_) && same_expr(length.get(), length_.get()),
             _ => false,
         },
+        _ => unreachable!(),
+    }
+}
+
+// A delegate of a method.
+#[cycle(sameness)]
+fn same_delegate(expr: &Expr, other: &Expr) -> bool
+    requires { IsTrue (delegates expr.now) }
+    ensures { IsTrue result ↔ (expr.now ≡ other.now) }
+{
+    match expr {
         Expr::Delegate {
             maker,
             object,
@@ -480,6 +519,17 @@ pub fn same_expr(expr: &Expr, other: &Expr) -> bool
                 && *by_slot == *by_slot_,
             _ => false,
         },
+        _ => unreachable!(),
+    }
+}
+
+// A lambda.
+#[cycle(sameness)]
+fn same_lambda(expr: &Expr, other: &Expr) -> bool
+    requires { IsTrue (writes_lambda expr.now) }
+    ensures { IsTrue result ↔ (expr.now ≡ other.now) }
+{
+    match expr {
         Expr::Lambda {
             maker,
             target,
@@ -497,44 +547,17 @@ pub fn same_expr(expr: &Expr, other: &Expr) -> bool
                 && same_block(block.as_slice(), block_.as_slice()),
             _ => false,
         },
-        Expr::Unary { op, operand } => match other {
-            Expr::Unary {
-                op: op_,
-                operand: operand_,
-            } => same_unary(*op, *op_) && same_expr(operand.get(), operand_.get()),
-            _ => false,
-        },
-        Expr::Binary {
-            op,
-            checked,
-            left,
-            right,
-        } => match other {
-            Expr::Binary {
-                op: op_,
-                checked: checked_,
-                left: left_,
-                right: right_,
-            } => same_binary(*op, *op_)
-                && *checked == *checked_
-                && same_expr(left.get(), left_.get())
-                && same_expr(right.get(), right_.get()),
-            _ => false,
-        },
-        Expr::Convert {
-            to,
-            checked,
-            operand,
-        } => match other {
-            Expr::Convert {
-                to: to_,
-                checked: checked_,
-                operand: operand_,
-            } => same_ty(to, to_)
-                && *checked == *checked_
-                && same_expr(operand.get(), operand_.get()),
-            _ => false,
-        },
+        _ => unreachable!(),
+    }
+}
+
+// A value as one of another type.
+#[cycle(sameness)]
+fn same_cast(expr: &Expr, other: &Expr) -> bool
+    requires { IsTrue (casts expr.now) }
+    ensures { IsTrue result ↔ (expr.now ≡ other.now) }
+{
+    match expr {
         Expr::Cast { to, operand } => match other {
             Expr::Cast {
                 to: to_,
@@ -566,6 +589,38 @@ pub fn same_expr(expr: &Expr, other: &Expr) -> bool
                 && same_expr(operand.get(), operand_.get()),
             _ => false,
         },
+        _ => unreachable!(),
+    }
+}
+
+// What one value becomes.
+#[cycle(sameness)]
+fn same_converted(expr: &Expr, other: &Expr) -> bool
+    requires { IsTrue (converts expr.now) }
+    ensures { IsTrue result ↔ (expr.now ≡ other.now) }
+{
+    match expr {
+        Expr::Unary { op, operand } => match other {
+            Expr::Unary {
+                op: op_,
+                operand: operand_,
+            } => same_unary(*op, *op_) && same_expr(operand.get(), operand_.get()),
+            _ => false,
+        },
+        Expr::Convert {
+            to,
+            checked,
+            operand,
+        } => match other {
+            Expr::Convert {
+                to: to_,
+                checked: checked_,
+                operand: operand_,
+            } => same_ty(to, to_)
+                && *checked == *checked_
+                && same_expr(operand.get(), operand_.get()),
+            _ => false,
+        },
         Expr::Unbox { to, operand } => match other {
             Expr::Unbox {
                 to: to_,
@@ -573,10 +628,59 @@ pub fn same_expr(expr: &Expr, other: &Expr) -> bool
             } => same_ty(to, to_) && same_expr(operand.get(), operand_.get()),
             _ => false,
         },
-        Expr::TruthToInt { test } => match other {
-            Expr::TruthToInt { test: test_ } => same_expr(test.get(), test_.get()),
+        _ => unreachable!(),
+    }
+}
+
+// An operator on two values.
+#[cycle(sameness)]
+fn same_pair(expr: &Expr, other: &Expr) -> bool
+    requires { IsTrue (pairs expr.now) }
+    ensures { IsTrue result ↔ (expr.now ≡ other.now) }
+{
+    match expr {
+        Expr::Binary {
+            op,
+            checked,
+            left,
+            right,
+        } => match other {
+            Expr::Binary {
+                op: op_,
+                checked: checked_,
+                left: left_,
+                right: right_,
+            } => same_binary(*op, *op_)
+                && *checked == *checked_
+                && same_expr(left.get(), left_.get())
+                && same_expr(right.get(), right_.get()),
             _ => false,
         },
+        Expr::RefEqual {
+            unequal,
+            left,
+            right,
+        } => match other {
+            Expr::RefEqual {
+                unequal: unequal_,
+                left: left_,
+                right: right_,
+            } => *unequal == *unequal_
+                && same_expr(left.get(), left_.get())
+                && same_expr(right.get(), right_.get()),
+            _ => false,
+        },
+        _ => unreachable!(),
+    }
+}
+
+// What depends on a truth.
+#[cycle(sameness)]
+fn same_condition(expr: &Expr, other: &Expr) -> bool
+    requires { IsTrue (decides expr.now) }
+    ensures { IsTrue result ↔ (expr.now ≡ other.now) }
+{
+    match expr {
         Expr::Cond {
             test,
             on_true,
@@ -605,27 +709,7 @@ pub fn same_expr(expr: &Expr, other: &Expr) -> bool
             } => same_expr(left.get(), left_.get()) && same_expr(right.get(), right_.get()),
             _ => false,
         },
-        Expr::RefEqual {
-            unequal,
-            left,
-            right,
-        } => match other {
-            Expr::RefEqual {
-                unequal: unequal_,
-                left: left_,
-                right: right_,
-            } => *unequal == *unequal_
-                && same_expr(left.get(), left_.get())
-                && same_expr(right.get(), right_.get()),
-            _ => false,
-        },
-        Expr::Lend { as_out, place } => match other {
-            Expr::Lend {
-                as_out: as_out_,
-                place: place_,
-            } => *as_out == *as_out_ && same_expr(place.get(), place_.get()),
-            _ => false,
-        },
+        _ => unreachable!(),
     }
 }
 
