@@ -1,11 +1,12 @@
 // Expressions.
 
-ghost use Rattle.std.specs.Prelude.{◌≡◌, ◌+◌, ◌++◌, OnOk, map};
+ghost use Rattle.std.specs.Prelude.{◌≡◌, ◌+◌, ◌++◌, IsTrue, OnOk, map};
 ghost use Rattle.std.specs.String.{string_bytes};
 ghost use Rattle.cs_layout.specs.Pieces.{followed};
 ghost use Rattle.cs_layout.specs.Words.{fixed, way_pieces, listed, name as name_pieces, path as path_pieces, ranks as rank_pieces, type_without_ranks, type_pieces, param_pieces, unary_pieces, binary_pieces, binary_level as level_of_binary, conditional_level, relational_level, new_array_level, primary_level};
 ghost use Rattle.cs_layout.specs.Layout.{at_least, indent, deeper as deeper_of, enclosed, arguments, signed_operand, cast_operand, form_shown, arg_laid, block_laid};
 ghost use Rattle.cs_layout.specs.declared.fixed.Fixed.TheVariants.{Arrow, Base, Close, CloseBrace, CloseIndex, Dot, Global as GlobalPart, New, Open, OpenIndex, Otherwise, Question};
+ghost use Rattle.cs_forms.specs.Kinds.{is_called, is_operated, is_worded};
 
 use crate::statements::write_deeper;
 use cs_layout::{
@@ -389,53 +390,75 @@ pub fn write_form(
         Form::Name { text, .. } => write_name(out, text),
         Form::This { .. } => write_fixed(out, Fixed::This),
         Form::Member { object, name, .. } => write_member(alloc, out, object.get(), name, margin),
-        Form::Call {
-            object,
-            name,
-            args,
-            ..
-        } => { write_call(alloc, out, object.get(), name, args.as_slice(), margin) }
         Form::BaseMember { name, .. } => write_base_member(out, name),
-        Form::BaseCall { name, args, .. } => {
-            write_base_call(alloc, out, name, args.as_slice(), margin)
-        }
         Form::Global { path, .. } => write_global(out, path.items()),
-        Form::GlobalCall { path, args, .. } => {
-            write_global_call(alloc, out, path.items(), args.as_slice(), margin)
-        }
         Form::Index { array, index, .. } => {
             write_indexed(alloc, out, array.get(), index.get(), margin)
         }
-        Form::New { class, args, .. } => write_new(alloc, out, class, args.as_slice(), margin),
-        Form::NewArray {
-            element,
-            length,
-            ..
-        } => { write_new_array(alloc, out, element, length.get(), margin) }
-        Form::Checked { inner, .. } => {
-            write_within(alloc, out, Fixed::Checked, inner.get(), margin)
-        }
-        Form::Unchecked { inner, .. } => {
-            write_within(alloc, out, Fixed::Unchecked, inner.get(), margin)
-        }
-        Form::Default { ty, .. } => write_default(out, ty),
         Form::Lambda { params, block, .. } => {
             write_lambda(alloc, out, params.items(), block, margin)
         }
-        Form::Unary { op, operand, .. } => write_signed(alloc, out, *op, operand.get(), margin),
         Form::Cast { ty, operand, .. } => write_cast(alloc, out, ty, operand.get(), margin),
-        Form::Binary {
-            op,
-            left,
-            right,
-            ..
-        } => { write_two(alloc, out, *op, left.get(), right.get(), margin) }
         Form::Is { operand, ty, .. } => {
             write_kind(alloc, out, operand.get(), Fixed::Is, ty, margin)
         }
         Form::As { operand, ty, .. } => {
             write_kind(alloc, out, operand.get(), Fixed::As, ty, margin)
         }
+        Form::Call { .. } | Form::BaseCall { .. } | Form::GlobalCall { .. } => write_called(
+            alloc, out, form, margin,
+        ),
+        Form::Unary { .. } | Form::Binary { .. } | Form::Conditional { .. } => write_operated(
+            alloc, out, form, margin,
+        ),
+        _ => write_worded(alloc, out, form, margin),
+    }
+}
+
+// A call of a member by its name.
+#[cycle(layout)]
+#[tactic(auto, using(cs_layout::proofs::Following::followed_append, cs_layout::proofs::Following::followed_nothing))]
+fn write_called(alloc: Global, out: &mut String, form: &Form, margin: &str) -> Result<(), NoMemory>
+    requires { IsTrue (is_called form.now) }
+    ensures { OnOk result (string_bytes out.new ≡ followed (string_bytes out.old) ((form_shown form.now).pieces margin.now)) }
+{
+    match form {
+        Form::Call {
+            object,
+            name,
+            args,
+            ..
+        } => { write_call(alloc, out, object.get(), name, args.as_slice(), margin) }
+        Form::BaseCall { name, args, .. } => {
+            write_base_call(alloc, out, name, args.as_slice(), margin)
+        }
+        Form::GlobalCall { path, args, .. } => {
+            write_global_call(alloc, out, path.items(), args.as_slice(), margin)
+        }
+        _ => unreachable!(),
+    }
+}
+
+// An operator with its operands.
+#[cycle(layout)]
+#[tactic(auto, using(cs_layout::proofs::Following::followed_append, cs_layout::proofs::Following::followed_nothing))]
+fn write_operated(
+    alloc: Global,
+    out: &mut String,
+    form: &Form,
+    margin: &str,
+) -> Result<(), NoMemory>
+    requires { IsTrue (is_operated form.now) }
+    ensures { OnOk result (string_bytes out.new ≡ followed (string_bytes out.old) ((form_shown form.now).pieces margin.now)) }
+{
+    match form {
+        Form::Unary { op, operand, .. } => write_signed(alloc, out, *op, operand.get(), margin),
+        Form::Binary {
+            op,
+            left,
+            right,
+            ..
+        } => { write_two(alloc, out, *op, left.get(), right.get(), margin) }
         Form::Conditional {
             test,
             on_true,
@@ -451,6 +474,32 @@ pub fn write_form(
                 margin,
             )
         }
+        _ => unreachable!(),
+    }
+}
+
+// An expression that begins with a word of its own.
+#[cycle(layout)]
+#[tactic(auto, using(cs_layout::proofs::Following::followed_append, cs_layout::proofs::Following::followed_nothing))]
+fn write_worded(alloc: Global, out: &mut String, form: &Form, margin: &str) -> Result<(), NoMemory>
+    requires { IsTrue (is_worded form.now) }
+    ensures { OnOk result (string_bytes out.new ≡ followed (string_bytes out.old) ((form_shown form.now).pieces margin.now)) }
+{
+    match form {
+        Form::New { class, args, .. } => write_new(alloc, out, class, args.as_slice(), margin),
+        Form::NewArray {
+            element,
+            length,
+            ..
+        } => { write_new_array(alloc, out, element, length.get(), margin) }
+        Form::Checked { inner, .. } => {
+            write_within(alloc, out, Fixed::Checked, inner.get(), margin)
+        }
+        Form::Unchecked { inner, .. } => {
+            write_within(alloc, out, Fixed::Unchecked, inner.get(), margin)
+        }
+        Form::Default { ty, .. } => write_default(out, ty),
+        _ => unreachable!(),
     }
 }
 

@@ -1,12 +1,13 @@
 // Statements.
 
-ghost use Rattle.std.specs.Prelude.{◌≡◌, ◌++◌, OnOk, map};
+ghost use Rattle.std.specs.Prelude.{◌≡◌, ◌++◌, IsTrue, OnOk, map};
 ghost use Rattle.std.specs.List.{flat_map};
 ghost use Rattle.std.specs.String.{string_bytes};
 ghost use Rattle.cs_layout.specs.Pieces.{followed};
 ghost use Rattle.cs_layout.specs.Words.{fixed, assign_pieces, type_pieces, new_array_level};
 ghost use Rattle.cs_layout.specs.Layout.{at_least, line, deeper as deeper_of, braced, label_pieces, typed, tested, valued, maybe_name, action_laid, form_shown, syntax_laid, block_laid, catching_laid, section_laid};
 ghost use Rattle.cs_layout.specs.declared.fixed.Fixed.TheVariants.{Catch, Close, CloseBrace, Do, DoEnd, Else, Equals, Finally, For, If, OpenBrace, Semicolon, Switch, Then, Try, While};
+ghost use Rattle.cs_forms.specs.Kinds.{has_parts, holds, is_foreach, is_tested};
 
 use crate::expressions::{write_form, write_least};
 use cs_layout::{Fixed, write_assign, write_fixed, write_type};
@@ -471,6 +472,27 @@ pub fn write_syntax(
             value: Some(value),
             ..
         } => write_value(alloc, out, Fixed::Throw, value, margin),
+        Syntax::If { .. } | Syntax::While { .. } | Syntax::DoWhile { .. } | Syntax::For { .. } =>
+            write_tested_block(alloc, out, stmt, margin),
+        Syntax::Foreach { .. } => write_foreach(alloc, out, stmt, margin),
+        Syntax::Using { .. } | Syntax::Lock { .. } => write_holding(alloc, out, stmt, margin),
+        _ => write_parts(alloc, out, stmt, margin),
+    }
+}
+
+// A branch or a loop, which has a test.
+#[cycle(layout)]
+#[tactic(auto, using(cs_layout::proofs::Following::followed_append, cs_layout::proofs::Following::followed_nothing))]
+fn write_tested_block(
+    alloc: Global,
+    out: &mut String,
+    stmt: &Syntax,
+    margin: &str,
+) -> Result<(), NoMemory>
+    requires { IsTrue (is_tested stmt.now) }
+    ensures { OnOk result (string_bytes out.new ≡ followed (string_bytes out.old) (syntax_laid stmt.now margin.now)) }
+{
+    match stmt {
         Syntax::If {
             test,
             block,
@@ -493,6 +515,23 @@ pub fn write_syntax(
             block,
             ..
         } => write_for(alloc, out, test, step, block, margin),
+        _ => unreachable!(),
+    }
+}
+
+// A loop over an array.
+#[cycle(layout)]
+#[tactic(auto, using(cs_layout::proofs::Following::followed_append, cs_layout::proofs::Following::followed_nothing))]
+fn write_foreach(
+    alloc: Global,
+    out: &mut String,
+    stmt: &Syntax,
+    margin: &str,
+) -> Result<(), NoMemory>
+    requires { IsTrue (is_foreach stmt.now) }
+    ensures { OnOk result (string_bytes out.new ≡ followed (string_bytes out.old) (syntax_laid stmt.now margin.now)) }
+{
+    match stmt {
         Syntax::Foreach {
             ty,
             name,
@@ -512,6 +551,23 @@ pub fn write_syntax(
                 margin,
             )
         }
+        _ => unreachable!(),
+    }
+}
+
+// A block that holds an object.
+#[cycle(layout)]
+#[tactic(auto, using(cs_layout::proofs::Following::followed_append, cs_layout::proofs::Following::followed_nothing))]
+fn write_holding(
+    alloc: Global,
+    out: &mut String,
+    stmt: &Syntax,
+    margin: &str,
+) -> Result<(), NoMemory>
+    requires { IsTrue (holds stmt.now) }
+    ensures { OnOk result (string_bytes out.new ≡ followed (string_bytes out.old) (syntax_laid stmt.now margin.now)) }
+{
+    match stmt {
         Syntax::Using {
             ty,
             name,
@@ -534,6 +590,18 @@ pub fn write_syntax(
         Syntax::Lock { object, block, .. } => {
             write_round(alloc, out, Fixed::Lock, object, block, margin)
         }
+        _ => unreachable!(),
+    }
+}
+
+// A statement with sections or catches.
+#[cycle(layout)]
+#[tactic(auto, using(cs_layout::proofs::Following::followed_append, cs_layout::proofs::Following::followed_nothing))]
+fn write_parts(alloc: Global, out: &mut String, stmt: &Syntax, margin: &str) -> Result<(), NoMemory>
+    requires { IsTrue (has_parts stmt.now) }
+    ensures { OnOk result (string_bytes out.new ≡ followed (string_bytes out.old) (syntax_laid stmt.now margin.now)) }
+{
+    match stmt {
         Syntax::Switch {
             value,
             sections,
@@ -551,5 +619,6 @@ pub fn write_syntax(
             finally: Some(finally),
             ..
         } => write_try_finally(alloc, out, block, catches.as_slice(), finally, margin),
+        _ => unreachable!(),
     }
 }
