@@ -1,1 +1,2 @@
--- All definitions stand in cs_layout and cs_unit_layout.
+-- All definitions that a reader must believe stand in cs_layout and cs_unit_layout. Here are inner facts.
+pub mod Kinds

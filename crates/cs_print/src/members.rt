@@ -1,6 +1,6 @@
 // Members.
 
-ghost use Rattle.std.specs.Prelude.{◌≡◌, ◌++◌, OnOk, map};
+ghost use Rattle.std.specs.Prelude.{◌≡◌, ◌++◌, IsTrue, OnOk, map};
 ghost use Rattle.std.specs.String.{string_bytes};
 ghost use Rattle.cs_layout.specs.Pieces.{followed};
 ghost use Rattle.cs_layout.specs.Words.{fixed};
@@ -8,6 +8,7 @@ ghost use Rattle.cs_layout.specs.Layout.{arg_laid, arguments, line};
 ghost use Rattle.cs_layout.specs.declared.fixed.Fixed.TheVariants.{Otherwise, Semicolon};
 ghost use Rattle.cs_unit_layout.specs.Heads.{headword};
 ghost use Rattle.cs_unit_layout.specs.Members.{accessor_laid, accessors_laid, block_behind, body_behind, bodied, constant_laid, constructor_laid, field_laid, indexer_head, initial_pieces, initial_value, initializer_laid, maker_head, member_laid, method_head, operator_head, property_laid};
+ghost use Rattle.cs_print.specs.Kinds.{has_accessors, is_constructor, is_method, is_variable};
 
 use cs_forms::{write_arguments, write_block, write_form};
 use cs_layout::{Fixed, write_fixed};
@@ -323,6 +324,48 @@ pub(crate) fn write_member(
     ensures { OnOk result (string_bytes out.new ≡ followed (string_bytes out.old) (member_laid member.now margin.now)) }
 {
     match member {
+        Member::Initializer {
+            note,
+            name,
+            block,
+            ..
+        } => {
+            write_note(out, note, margin)?;
+            write_initializer(alloc, out, name, block, margin)
+        }
+        Member::Maker {
+            mods,
+            name,
+            params,
+            ..
+        } => write_maker(out, *mods, name, params.items(), margin),
+        Member::Operator {
+            ty,
+            name,
+            params,
+            ..
+        } => write_operator(out, ty, name, params.items(), margin),
+        Member::Field { .. } | Member::Constant { .. } => write_variable(
+            alloc, out, member, margin,
+        ),
+        Member::Method { .. } => write_noted_method(alloc, out, member, margin),
+        Member::Constructor { .. } => write_noted_constructor(alloc, out, member, margin),
+        _ => write_accessed(alloc, out, member, margin),
+    }
+}
+
+// A field or a constant, with its note.
+#[tactic(auto, using(cs_layout::proofs::Following::followed_append))]
+fn write_variable(
+    alloc: Global,
+    out: &mut String,
+    member: &Member,
+    margin: &str,
+) -> Result<(), NoMemory>
+    requires { IsTrue (is_variable member.now) }
+    ensures { OnOk result (string_bytes out.new ≡ followed (string_bytes out.old) (member_laid member.now margin.now)) }
+{
+    match member {
         Member::Field {
             note,
             mods,
@@ -345,6 +388,22 @@ pub(crate) fn write_member(
             write_note(out, note, margin)?;
             write_constant(alloc, out, *mods, ty, name, value, margin)
         }
+        _ => unreachable!(),
+    }
+}
+
+// A method with its note.
+#[tactic(auto, using(cs_layout::proofs::Following::followed_append))]
+fn write_noted_method(
+    alloc: Global,
+    out: &mut String,
+    member: &Member,
+    margin: &str,
+) -> Result<(), NoMemory>
+    requires { IsTrue (is_method member.now) }
+    ensures { OnOk result (string_bytes out.new ≡ followed (string_bytes out.old) (member_laid member.now margin.now)) }
+{
+    match member {
         Member::Method {
             note,
             mods,
@@ -368,6 +427,22 @@ pub(crate) fn write_member(
                 margin,
             )
         }
+        _ => unreachable!(),
+    }
+}
+
+// A constructor with its note.
+#[tactic(auto, using(cs_layout::proofs::Following::followed_append))]
+fn write_noted_constructor(
+    alloc: Global,
+    out: &mut String,
+    member: &Member,
+    margin: &str,
+) -> Result<(), NoMemory>
+    requires { IsTrue (is_constructor member.now) }
+    ensures { OnOk result (string_bytes out.new ≡ followed (string_bytes out.old) (member_laid member.now margin.now)) }
+{
+    match member {
         Member::Constructor {
             note,
             mods,
@@ -389,15 +464,22 @@ pub(crate) fn write_member(
                 margin,
             )
         }
-        Member::Initializer {
-            note,
-            name,
-            block,
-            ..
-        } => {
-            write_note(out, note, margin)?;
-            write_initializer(alloc, out, name, block, margin)
-        }
+        _ => unreachable!(),
+    }
+}
+
+// A member with accessors.
+#[tactic(auto, using(cs_layout::proofs::Following::followed_append))]
+fn write_accessed(
+    alloc: Global,
+    out: &mut String,
+    member: &Member,
+    margin: &str,
+) -> Result<(), NoMemory>
+    requires { IsTrue (has_accessors member.now) }
+    ensures { OnOk result (string_bytes out.new ≡ followed (string_bytes out.old) (member_laid member.now margin.now)) }
+{
+    match member {
         Member::Property {
             note,
             mods,
@@ -410,12 +492,6 @@ pub(crate) fn write_member(
             write_note(out, note, margin)?;
             write_property(alloc, out, *mods, ty, name, getter, setter, margin)
         }
-        Member::Maker {
-            mods,
-            name,
-            params,
-            ..
-        } => write_maker(out, *mods, name, params.items(), margin),
         Member::Indexer {
             mods,
             ty,
@@ -430,11 +506,6 @@ pub(crate) fn write_member(
                 alloc, out, *mods, ty, name, index_ty, index, getter, setter, margin,
             )
         }
-        Member::Operator {
-            ty,
-            name,
-            params,
-            ..
-        } => write_operator(out, ty, name, params.items(), margin),
+        _ => unreachable!(),
     }
 }
