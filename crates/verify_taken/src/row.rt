@@ -1,8 +1,10 @@
 // What each instruction takes.
 
+ghost use Rattle.std.specs.Prelude.{IsTrue};
 ghost use Rattle.std.specs.Bool.{OnTrue, OnFalse};
 ghost use Rattle.cli_assembly.specs.Meaning.{AreInOrder};
 ghost use Rattle.verify_rules.specs.Kinds.{IsTaken};
+ghost use Rattle.verify_taken.specs.Groups.{is_of_objects, is_of_places};
 
 use crate::element::{is_behind_unbox, is_untyped, one_with_length, stored_element};
 use crate::member::{names_called, names_instance_field, names_made, names_static_field};
@@ -35,7 +37,6 @@ pub fn is_taken(setting: &Setting<'_>, spot: Spot, row: &Row, frame: &[Slot]) ->
         Row::StoreLocal(k) | Row::LocalAddress(k) => {
             is_own_place(setting.locals.get(usize::from(*k)).copied())
         }
-        Row::Text(token) => names_text(setting, *token),
         Row::Arithmetic { .. } | Row::Bitwise(_) => two_of_one_size(frame),
         Row::Shift(_) => two_shifted(frame),
         Row::Unary(_) => one_number(frame),
@@ -48,6 +49,30 @@ pub fn is_taken(setting: &Setting<'_>, spot: Spot, row: &Row, frame: &[Slot]) ->
         Row::BranchIf { .. } => one_condition(frame),
         Row::BranchCompare { test, .. } => two_branched_on(*test, frame),
         Row::Switch(_) => one_32(frame),
+        Row::Nop
+        | Row::Return
+        | Row::Null
+        | Row::Truth(_)
+        | Row::Int(_)
+        | Row::Long(_)
+        | Row::Branch { .. }
+        | Row::Leave { .. }
+        | Row::Throw
+        | Row::Rethrow
+        | Row::EndFinally => true,
+        _ => is_object_taken(setting, spot, row, frame),
+    }
+}
+
+// What names a member, a type or a text.
+fn is_object_taken(setting: &Setting<'_>, spot: Spot, row: &Row, frame: &[Slot]) -> bool
+    requires { AreInOrder setting.now.tokens.now }
+    requires { IsTrue (is_of_objects row.now) }
+    ensures yes { OnTrue result (IsTaken setting.now spot row.now frame.now) }
+    ensures no { OnFalse result (IsTaken setting.now spot row.now frame.now → ⊥) }
+{
+    match row {
+        Row::Text(token) => names_text(setting, *token),
         Row::Call { callee, by_slot } => names_called(
             setting,
             *by_slot,
@@ -63,6 +88,24 @@ pub fn is_taken(setting: &Setting<'_>, spot: Spot, row: &Row, frame: &[Slot]) ->
         Row::LoadStatic(token) | Row::StaticAddress(token) | Row::StoreStatic(token) => {
             names_static_field(named_row(setting, *token))
         }
+        Row::Cast(token) => names_reference(setting, *token) && one_reference(frame),
+        Row::IsInstance(token) | Row::UnboxAny(token) => {
+            names_any(setting, *token) && one_reference(frame)
+        }
+        Row::Box(token) => names_value(setting, *token),
+        Row::Unbox(token) => names_value(setting, *token) && one_reference(frame),
+        _ => is_place_taken(setting, spot, row, frame),
+    }
+}
+
+// What reaches into an array, or to what lies at an address.
+fn is_place_taken(setting: &Setting<'_>, spot: Spot, row: &Row, frame: &[Slot]) -> bool
+    requires { AreInOrder setting.now.tokens.now }
+    requires { IsTrue (is_of_places row.now) }
+    ensures yes { OnTrue result (IsTaken setting.now spot row.now frame.now) }
+    ensures no { OnFalse result (IsTaken setting.now spot row.now frame.now → ⊥) }
+{
+    match row {
         Row::NewArray(token) => names_elements(setting, *token) && one_32(frame),
         Row::Length => one_with_length(setting, frame),
         Row::LoadElement(access) => {
@@ -79,22 +122,6 @@ pub fn is_taken(setting: &Setting<'_>, spot: Spot, row: &Row, frame: &[Slot]) ->
         Row::StoreIndirect(access) => {
             value_and_address(setting, *access, frame) && is_untyped(*access)
         }
-        Row::Cast(token) => names_reference(setting, *token) && one_reference(frame),
-        Row::IsInstance(token) | Row::UnboxAny(token) => {
-            names_any(setting, *token) && one_reference(frame)
-        }
-        Row::Box(token) => names_value(setting, *token),
-        Row::Unbox(token) => names_value(setting, *token) && one_reference(frame),
-        Row::Nop
-        | Row::Return
-        | Row::Null
-        | Row::Truth(_)
-        | Row::Int(_)
-        | Row::Long(_)
-        | Row::Branch { .. }
-        | Row::Leave { .. }
-        | Row::Throw
-        | Row::Rethrow
-        | Row::EndFinally => true,
+        _ => unreachable!(),
     }
 }
