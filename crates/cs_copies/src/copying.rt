@@ -1,6 +1,7 @@
 // Copies of trees.
 
-ghost use Rattle.std.specs.Prelude.{◌≡◌, IfOk};
+ghost use Rattle.std.specs.Prelude.{◌≡◌, IfOk, IsTrue};
+ghost use Rattle.cs_copies.specs.Kinds.{calls, casts, chooses, decides, holds, loops, makes_function, names_place, operates, sets, tries};
 
 use cs_body::{Body, Case, Catch, Expr, Literal, Section, Stmt};
 use dc_base::{Boxed, Items, NoMemory, Seq};
@@ -75,6 +76,37 @@ pub fn copied_stmt(alloc: Global, stmt: &Stmt) -> Result<Stmt, NoMemory>
     ensures { IfOk result (λ copy. copy ≡ stmt.now) }
 {
     match stmt {
+        Stmt::Label { label } => Ok(Stmt::Label { label: *label }),
+        Stmt::Goto { label } => Ok(Stmt::Goto { label: *label }),
+        Stmt::Break => Ok(Stmt::Break),
+        Stmt::Continue => Ok(Stmt::Continue),
+        Stmt::Return { value: None } => Ok(Stmt::Return { value: None }),
+        Stmt::Return { value: Some(value) } => Ok(Stmt::Return {
+            value: Some(copied_expr(alloc, value)?),
+        }),
+        Stmt::Throw { value } => Ok(Stmt::Throw {
+            value: copied_expr(alloc, value)?,
+        }),
+        Stmt::Rethrow => Ok(Stmt::Rethrow),
+        Stmt::Decl { .. } | Stmt::Set { .. } | Stmt::SetOp { .. } | Stmt::Do { .. } =>
+            copied_setting(alloc, stmt),
+        Stmt::If { .. } | Stmt::Switch { .. } | Stmt::TextSwitch { .. } => copied_choice(
+            alloc, stmt,
+        ),
+        Stmt::While { .. } | Stmt::DoWhile { .. } | Stmt::For { .. } | Stmt::Foreach { .. } =>
+            copied_loop(alloc, stmt),
+        Stmt::Using { .. } | Stmt::Lock { .. } => copied_holding(alloc, stmt),
+        Stmt::Try { .. } => copied_try(alloc, stmt),
+    }
+}
+
+// A statement that sets a place, or does a call.
+#[cycle(copying)]
+fn copied_setting(alloc: Global, stmt: &Stmt) -> Result<Stmt, NoMemory>
+    requires { IsTrue (sets stmt.now) }
+    ensures { IfOk result (λ copy. copy ≡ stmt.now) }
+{
+    match stmt {
         Stmt::Decl { var, value } => Ok(Stmt::Decl {
             var: *var,
             value: copied_expr(alloc, value)?,
@@ -91,8 +123,17 @@ pub fn copied_stmt(alloc: Global, stmt: &Stmt) -> Result<Stmt, NoMemory>
         Stmt::Do { call } => Ok(Stmt::Do {
             call: copied_expr(alloc, call)?,
         }),
-        Stmt::Label { label } => Ok(Stmt::Label { label: *label }),
-        Stmt::Goto { label } => Ok(Stmt::Goto { label: *label }),
+        _ => unreachable!(),
+    }
+}
+
+// A choice between blocks.
+#[cycle(copying)]
+fn copied_choice(alloc: Global, stmt: &Stmt) -> Result<Stmt, NoMemory>
+    requires { IsTrue (chooses stmt.now) }
+    ensures { IfOk result (λ copy. copy ≡ stmt.now) }
+{
+    match stmt {
         Stmt::If {
             test,
             block,
@@ -111,6 +152,30 @@ pub fn copied_stmt(alloc: Global, stmt: &Stmt) -> Result<Stmt, NoMemory>
             block: copied_block(alloc, block.as_slice())?,
             otherwise: Some(copied_block(alloc, otherwise.as_slice())?),
         }),
+        Stmt::Switch { value, sections } => Ok(Stmt::Switch {
+            value: copied_expr(alloc, value)?,
+            sections: copied_sections(alloc, sections.as_slice())?,
+        }),
+        Stmt::TextSwitch {
+            value,
+            equality,
+            sections,
+        } => Ok(Stmt::TextSwitch {
+            value: copied_expr(alloc, value)?,
+            equality: *equality,
+            sections: copied_sections(alloc, sections.as_slice())?,
+        }),
+        _ => unreachable!(),
+    }
+}
+
+// A loop.
+#[cycle(copying)]
+fn copied_loop(alloc: Global, stmt: &Stmt) -> Result<Stmt, NoMemory>
+    requires { IsTrue (loops stmt.now) }
+    ensures { IfOk result (λ copy. copy ≡ stmt.now) }
+{
+    match stmt {
         Stmt::While { test, block } => Ok(Stmt::While {
             test: copied_expr(alloc, test)?,
             block: copied_block(alloc, block.as_slice())?,
@@ -129,6 +194,17 @@ pub fn copied_stmt(alloc: Global, stmt: &Stmt) -> Result<Stmt, NoMemory>
             array: copied_expr(alloc, array)?,
             block: copied_block(alloc, block.as_slice())?,
         }),
+        _ => unreachable!(),
+    }
+}
+
+// A block that holds an object.
+#[cycle(copying)]
+fn copied_holding(alloc: Global, stmt: &Stmt) -> Result<Stmt, NoMemory>
+    requires { IsTrue (holds stmt.now) }
+    ensures { IfOk result (λ copy. copy ≡ stmt.now) }
+{
+    match stmt {
         Stmt::Using {
             var,
             value,
@@ -151,19 +227,17 @@ pub fn copied_stmt(alloc: Global, stmt: &Stmt) -> Result<Stmt, NoMemory>
             exit: *exit,
             block: copied_block(alloc, block.as_slice())?,
         }),
-        Stmt::Switch { value, sections } => Ok(Stmt::Switch {
-            value: copied_expr(alloc, value)?,
-            sections: copied_sections(alloc, sections.as_slice())?,
-        }),
-        Stmt::TextSwitch {
-            value,
-            equality,
-            sections,
-        } => Ok(Stmt::TextSwitch {
-            value: copied_expr(alloc, value)?,
-            equality: *equality,
-            sections: copied_sections(alloc, sections.as_slice())?,
-        }),
+        _ => unreachable!(),
+    }
+}
+
+// A block with what takes its exceptions.
+#[cycle(copying)]
+fn copied_try(alloc: Global, stmt: &Stmt) -> Result<Stmt, NoMemory>
+    requires { IsTrue (tries stmt.now) }
+    ensures { IfOk result (λ copy. copy ≡ stmt.now) }
+{
+    match stmt {
         Stmt::Try {
             block,
             catches,
@@ -182,16 +256,7 @@ pub fn copied_stmt(alloc: Global, stmt: &Stmt) -> Result<Stmt, NoMemory>
             catches: copied_catches(alloc, catches.as_slice())?,
             finally: Some(copied_block(alloc, finally.as_slice())?),
         }),
-        Stmt::Break => Ok(Stmt::Break),
-        Stmt::Continue => Ok(Stmt::Continue),
-        Stmt::Return { value: None } => Ok(Stmt::Return { value: None }),
-        Stmt::Return { value: Some(value) } => Ok(Stmt::Return {
-            value: Some(copied_expr(alloc, value)?),
-        }),
-        Stmt::Throw { value } => Ok(Stmt::Throw {
-            value: copied_expr(alloc, value)?,
-        }),
-        Stmt::Rethrow => Ok(Stmt::Rethrow),
+        _ => unreachable!(),
     }
 }
 
@@ -207,11 +272,39 @@ pub fn copied_expr(alloc: Global, expr: &Expr) -> Result<Expr, NoMemory>
         Expr::Default { ty } => Ok(Expr::Default { ty: *ty }),
         Expr::Var { var } => Ok(Expr::Var { var: *var }),
         Expr::This => Ok(Expr::This),
+        Expr::Static { field } => Ok(Expr::Static { field: *field }),
+        Expr::Field { .. }
+        | Expr::Element { .. }
+        | Expr::Length { .. }
+        | Expr::NewArray { .. }
+        | Expr::Lend { .. } => copied_place(alloc, expr),
+        Expr::Call { .. } | Expr::New { .. } => copied_call(alloc, expr),
+        Expr::Delegate { .. } | Expr::Lambda { .. } => copied_function(alloc, expr),
+        Expr::Convert { .. }
+        | Expr::Cast { .. }
+        | Expr::AsClass { .. }
+        | Expr::IsClass { .. }
+        | Expr::Box { .. }
+        | Expr::Unbox { .. } => copied_cast(alloc, expr),
+        Expr::Unary { .. } | Expr::Binary { .. } | Expr::RefEqual { .. } => copied_operator(
+            alloc, expr,
+        ),
+        Expr::TruthToInt { .. } | Expr::Cond { .. } | Expr::And { .. } | Expr::Or { .. } =>
+            copied_condition(alloc, expr),
+    }
+}
+
+// A place, or what is asked of one.
+#[cycle(copying)]
+fn copied_place(alloc: Global, expr: &Expr) -> Result<Expr, NoMemory>
+    requires { IsTrue (names_place expr.now) }
+    ensures { IfOk result (λ copy. copy ≡ expr.now) }
+{
+    match expr {
         Expr::Field { object, field } => Ok(Expr::Field {
             object: boxed_copy(alloc, object.get())?,
             field: *field,
         }),
-        Expr::Static { field } => Ok(Expr::Static { field: *field }),
         Expr::Element { array, index } => Ok(Expr::Element {
             array: boxed_copy(alloc, array.get())?,
             index: boxed_copy(alloc, index.get())?,
@@ -219,6 +312,25 @@ pub fn copied_expr(alloc: Global, expr: &Expr) -> Result<Expr, NoMemory>
         Expr::Length { array } => Ok(Expr::Length {
             array: boxed_copy(alloc, array.get())?,
         }),
+        Expr::NewArray { element, length } => Ok(Expr::NewArray {
+            element: *element,
+            length: boxed_copy(alloc, length.get())?,
+        }),
+        Expr::Lend { as_out, place } => Ok(Expr::Lend {
+            as_out: *as_out,
+            place: boxed_copy(alloc, place.get())?,
+        }),
+        _ => unreachable!(),
+    }
+}
+
+// A call.
+#[cycle(copying)]
+fn copied_call(alloc: Global, expr: &Expr) -> Result<Expr, NoMemory>
+    requires { IsTrue (calls expr.now) }
+    ensures { IfOk result (λ copy. copy ≡ expr.now) }
+{
+    match expr {
         Expr::Call {
             object: None,
             method,
@@ -245,10 +357,17 @@ pub fn copied_expr(alloc: Global, expr: &Expr) -> Result<Expr, NoMemory>
             maker: *maker,
             args: copied_exprs(alloc, args.as_slice())?,
         }),
-        Expr::NewArray { element, length } => Ok(Expr::NewArray {
-            element: *element,
-            length: boxed_copy(alloc, length.get())?,
-        }),
+        _ => unreachable!(),
+    }
+}
+
+// A function as a value.
+#[cycle(copying)]
+fn copied_function(alloc: Global, expr: &Expr) -> Result<Expr, NoMemory>
+    requires { IsTrue (makes_function expr.now) }
+    ensures { IfOk result (λ copy. copy ≡ expr.now) }
+{
+    match expr {
         Expr::Delegate {
             maker,
             object,
@@ -271,21 +390,17 @@ pub fn copied_expr(alloc: Global, expr: &Expr) -> Result<Expr, NoMemory>
             params: params.copied(alloc)?,
             block: copied_block(alloc, block.as_slice())?,
         }),
-        Expr::Unary { op, operand } => Ok(Expr::Unary {
-            op: *op,
-            operand: boxed_copy(alloc, operand.get())?,
-        }),
-        Expr::Binary {
-            op,
-            checked,
-            left,
-            right,
-        } => Ok(Expr::Binary {
-            op: *op,
-            checked: *checked,
-            left: boxed_copy(alloc, left.get())?,
-            right: boxed_copy(alloc, right.get())?,
-        }),
+        _ => unreachable!(),
+    }
+}
+
+// A value as one of another type.
+#[cycle(copying)]
+fn copied_cast(alloc: Global, expr: &Expr) -> Result<Expr, NoMemory>
+    requires { IsTrue (casts expr.now) }
+    ensures { IfOk result (λ copy. copy ≡ expr.now) }
+{
+    match expr {
         Expr::Convert {
             to,
             checked,
@@ -316,6 +431,52 @@ pub fn copied_expr(alloc: Global, expr: &Expr) -> Result<Expr, NoMemory>
             to: *to,
             operand: boxed_copy(alloc, operand.get())?,
         }),
+        _ => unreachable!(),
+    }
+}
+
+// An operator on values.
+#[cycle(copying)]
+fn copied_operator(alloc: Global, expr: &Expr) -> Result<Expr, NoMemory>
+    requires { IsTrue (operates expr.now) }
+    ensures { IfOk result (λ copy. copy ≡ expr.now) }
+{
+    match expr {
+        Expr::Unary { op, operand } => Ok(Expr::Unary {
+            op: *op,
+            operand: boxed_copy(alloc, operand.get())?,
+        }),
+        Expr::Binary {
+            op,
+            checked,
+            left,
+            right,
+        } => Ok(Expr::Binary {
+            op: *op,
+            checked: *checked,
+            left: boxed_copy(alloc, left.get())?,
+            right: boxed_copy(alloc, right.get())?,
+        }),
+        Expr::RefEqual {
+            unequal,
+            left,
+            right,
+        } => Ok(Expr::RefEqual {
+            unequal: *unequal,
+            left: boxed_copy(alloc, left.get())?,
+            right: boxed_copy(alloc, right.get())?,
+        }),
+        _ => unreachable!(),
+    }
+}
+
+// What depends on a truth.
+#[cycle(copying)]
+fn copied_condition(alloc: Global, expr: &Expr) -> Result<Expr, NoMemory>
+    requires { IsTrue (decides expr.now) }
+    ensures { IfOk result (λ copy. copy ≡ expr.now) }
+{
+    match expr {
         Expr::TruthToInt { test } => Ok(Expr::TruthToInt {
             test: boxed_copy(alloc, test.get())?,
         }),
@@ -336,19 +497,7 @@ pub fn copied_expr(alloc: Global, expr: &Expr) -> Result<Expr, NoMemory>
             left: boxed_copy(alloc, left.get())?,
             right: boxed_copy(alloc, right.get())?,
         }),
-        Expr::RefEqual {
-            unequal,
-            left,
-            right,
-        } => Ok(Expr::RefEqual {
-            unequal: *unequal,
-            left: boxed_copy(alloc, left.get())?,
-            right: boxed_copy(alloc, right.get())?,
-        }),
-        Expr::Lend { as_out, place } => Ok(Expr::Lend {
-            as_out: *as_out,
-            place: boxed_copy(alloc, place.get())?,
-        }),
+        _ => unreachable!(),
     }
 }
 
