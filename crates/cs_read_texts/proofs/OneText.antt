@@ -108,7 +108,7 @@ two_faults {g = g} wide x text d e p q a b =
     let here : Begins text b.rest b.left p = subst (λ (rest : List ℕ). Begins text rest b.left p) same.1 (subst (λ (l : List Token). Begins text a.rest l p) left a.placed) in
     record { deep = same_deep d e a.left b.left one; place = begins_once text b.rest b.left p q here b.placed }
 
-pub one_of : {g : Grammar Token WholeText} {xs v : List ℕ} {n : Bool} (wide : Grammar Token WholeText) → Exact kind g xs v n → (text : List ℕ) (r s : Result WholeText ReadFault) → IsAnswer g wide text r → IsAnswer g wide text s → r ≡ s
+one_of : {g : Grammar Token WholeText} {xs v : List ℕ} {n : Bool} (wide : Grammar Token WholeText) → Exact kind g xs v n → (text : List ℕ) (r s : Result WholeText ReadFault) → IsAnswer g wide text r → IsAnswer g wide text s → r ≡ s
 one_of wide x text (Ok t) (Ok u) a b = ap (λ (w : WholeText). let r : Result WholeText ReadFault = Ok w in r) (two_trees wide x text t u a b)
 one_of wide x text (Ok t) (Err (Lex l c)) a b = absurd (tree_or_token text t (l, c) a b)
 one_of wide x text (Ok t) (Err (Parse l c)) a b = absurd (tree_or_none wide x text t false (l, c) a b)

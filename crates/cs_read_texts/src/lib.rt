@@ -20,7 +20,7 @@ mod read;
 
 pub use fault::ReadFault;
 pub use laws::one_text;
-pub use read::{told, unit_of_text};
+pub use read::unit_of_text;
 
 #[cfg(test)]
 mod tests;

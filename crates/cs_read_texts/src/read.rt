@@ -56,7 +56,7 @@ fn whole(cut: &Tokens, left: &Cursor<Token>, unit: Unit) -> Result<Unit, Or<Read
 }
 
 /// What was read of a whole text, where these tokens are left.
-pub fn told(
+fn told(
     cut: &Tokens,
     left: &Cursor<Token>,
     read: Result<Unit, Or<Fault>>,
