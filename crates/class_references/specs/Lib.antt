@@ -1,0 +1,3 @@
+-- What a reader must believe: what a reference text is.
+pub mod References
+pub mod Laws
