@@ -2,8 +2,10 @@
 -- laws::types_stand_behind_theirs
 pub mod Outers
 pub mod Owners
--- reading::table_of, laws::texts_are_buildable
+-- reading::declared, laws::texts_are_buildable
 pub mod Buildable
 pub mod OnePairing
 -- laws::one_table
 pub mod OneTable
+-- reading::references
+pub mod Steps

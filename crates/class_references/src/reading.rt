@@ -5,7 +5,9 @@ ghost use Rattle.std.specs.Str.{chars};
 ghost use Rattle.dc_causes.specs.Answer.{ReadBy, OnFault};
 ghost use Rattle.dc_causes.specs.Step.{Told};
 ghost use Rattle.class_references.specs.declared.fault.RefFault.TheVariants as told_as;
-ghost use Rattle.class_references.specs.References.{IsReadAs, MakesTable, IsReference};
+ghost use Rattle.class_table.specs.Buildable.{IsBuildable};
+ghost use Rattle.class_references.specs.References.{IsReadAs, IsReference};
+ghost use Rattle.class_references.specs.TextRows.{AreRowsIn};
 
 use crate::RefFault;
 use class_table::{ClassTable, build};
@@ -42,25 +44,19 @@ fn are_few(types: usize, members: usize, explicit: usize) -> bool
     types < 0x1_0000_0000 && members < 0x1_0000_0000 && explicit < 0x1_0000_0000
 }
 
-// The table of what a tree declares. No memory holds more rows than there are numbers.
-fn table_of(alloc: Global, unit: &Unit) -> Result<ClassTable, Or<RefFault>>
-    ensures table { IfOk result (ReadBy (Told told_as.Types (MakesTable unit.now))) }
-    ensures fault { IfErr result (OnFault (Told told_as.Types (MakesTable unit.now))) }
+// The rows that a text declares, of which a table may be built. The tree is let go here. No memory holds more rows than there are numbers.
+fn declared(alloc: Global, source: &str) -> Result<Rows, Or<RefFault>>
+    requires { length source.now ≤ 2 ^ 31 }
+    ensures rows { IfOk result (λ rows. AreRowsIn (chars source.now) rows.types.items rows.members.items rows.explicit.items) }
+    ensures buildable { IfOk result (λ rows. IsBuildable rows.types.items rows.members.items rows.explicit.items) }
+    ensures fault { IfErr result (OnFault (Told told_as.Read (IsReadAs (chars source.now)))) }
 {
-    let rows = rows_of(alloc, unit)?;
+    let unit = read_of(alloc, source)?;
+    let rows = rows_of(alloc, &unit)?;
     if !are_few(rows.types.len(), rows.members.len(), rows.explicit.len()) {
         return Err(Or::NoMemory);
     }
-    let Rows {
-        types,
-        members,
-        explicit,
-    } = rows;
-    match build(alloc, types, members, explicit) {
-        Ok(table) => Ok(table),
-        Err(Or::NoMemory) => Err(Or::NoMemory),
-        Err(Or::Fault(fault)) => Err(Or::Fault(RefFault::Types(fault))),
-    }
+    Ok(rows)
 }
 
 /// The class table of the types and members that a reference text declares. The text has at most 2^31 bytes, types have at most 33
@@ -70,6 +66,14 @@ pub fn references(alloc: Global, source: &str) -> Result<ClassTable, Or<RefFault
     ensures table { IfOk result (ReadBy (IsReference (chars source.now))) }
     ensures fault { IfErr result (OnFault (IsReference (chars source.now))) }
 {
-    let unit = read_of(alloc, source)?;
-    table_of(alloc, &unit)
+    let Rows {
+        types,
+        members,
+        explicit,
+    } = declared(alloc, source)?;
+    match build(alloc, types, members, explicit) {
+        Ok(table) => Ok(table),
+        Err(Or::NoMemory) => Err(Or::NoMemory),
+        Err(Or::Fault(fault)) => Err(Or::Fault(RefFault::Types(fault))),
+    }
 }
