@@ -12,9 +12,11 @@ use Rattle.cs_grammar.proofs.Whole.{one_answer}
 use Rattle.cs_productions.specs.Tokens.{kind}
 use Rattle.cs_units.specs.Declarations.{unit_at, inside}
 use Rattle.cs_units.proofs.ExactDeclarations.{exact_unit_at, exact_inside}
+use Rattle.cs_references.specs.Declarations.{text_at}
+use Rattle.cs_read_texts.proofs.References.{exact_text_at}
 use Rattle.cs_read_texts.specs.declared.fault.ReadFault.{ReadFault}
 use Rattle.cs_read_texts.specs.declared.fault.ReadFault.TheVariants.{Lex, Parse, Deep}
-use Rattle.cs_read_texts.specs.Texts.{IsText, HasNoToken, Begins, HasNoTree, IsAnswer, HasOneText}
+use Rattle.cs_read_texts.specs.Texts.{IsText, HasNoToken, Begins, HasNoTree, IsAnswer, HasOneText, HasOneReference}
 
 abbrev Answer : Type 0
 Answer = Result WholeText (Bool × List Token)
@@ -129,3 +131,6 @@ one_of wide x text (Err (Deep l c)) (Err (Deep m d)) a b = ap (told_at (λ l c. 
 pub has_one_text : HasOneText
 has_one_text levels ranks blocks nesting some more text r s a b =
     one_of (unit_at (inside (levels + 2) (ranks + 1) (blocks + 1)) (nesting + 1)) (exact_unit_at nesting (exact_inside levels ranks blocks)) text r s a b
+
+pub has_one_reference : HasOneReference
+has_one_reference limit nesting text r s a b = one_of (text_at (limit + 1) (nesting + 1)) (exact_text_at limit nesting) text r s a b

@@ -9,6 +9,7 @@ use Rattle.cs_tree.specs.declared.declarations.Unit.{Unit as WholeText}
 use Rattle.cs_grammar.specs.Grammar.{Grammar}
 use Rattle.cs_grammar.specs.Whole.{Viable, IsFault}
 use Rattle.cs_units.specs.Declarations.{unit_at, inside}
+use Rattle.cs_references.specs.Declarations.{text_at}
 use Rattle.cs_read_calls.specs.declared.level.Depth.{Depth}
 use Rattle.cs_read_texts.specs.declared.fault.ReadFault.{ReadFault}
 use Rattle.cs_read_texts.specs.declared.fault.ReadFault.TheVariants.{Lex, Parse, Deep}
@@ -69,3 +70,10 @@ HasOneText =
     (levels ranks blocks nesting : ℕ) → 0 < ranks → 0 < blocks → (text : List ℕ) (r s : Result WholeText ReadFault)
     → IsAnswer (unit_at (inside levels ranks blocks) nesting) (unit_at (inside (levels + 2) (ranks + 1) (blocks + 1)) (nesting + 1)) text r
     → IsAnswer (unit_at (inside levels ranks blocks) nesting) (unit_at (inside (levels + 2) (ranks + 1) (blocks + 1)) (nesting + 1)) text s → r ≡ s
+
+-- so has a reference text
+abbrev pub HasOneReference : Type 0
+HasOneReference =
+    (limit nesting : ℕ) → (text : List ℕ) (r s : Result WholeText ReadFault)
+    → IsAnswer (text_at limit nesting) (text_at (limit + 1) (nesting + 1)) text r
+    → IsAnswer (text_at limit nesting) (text_at (limit + 1) (nesting + 1)) text s → r ≡ s

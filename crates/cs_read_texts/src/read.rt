@@ -2,6 +2,7 @@
 
 ghost use Rattle.std.specs.Prelude.{◌≡◌, ◌≤◌, ◌<◌, ◌+◌, ◌^◌, length};
 ghost use Rattle.std.specs.Str.{chars};
+ghost use Rattle.cs_references.specs.Declarations.{text_at};
 ghost use Rattle.cs_read_calls.specs.Asked.{Asked};
 ghost use Rattle.cs_read_texts.specs.Texts.{within, beyond, IsRead};
 ghost use Rattle.cs_read_texts.specs.Told.{at_end as at_end_of, at_token as at_token_of, fault_of, whole_of, told as told_of};
@@ -10,6 +11,7 @@ use crate::ReadFault;
 use cs_grammar::{Cursor, Fault};
 use cs_lex::{Tokens, cut};
 use cs_read_calls::{Ask, Got, Level};
+use cs_read_references::reference_text;
 use cs_read_units::unit;
 use cs_token::Token;
 use cs_tree::Unit;
@@ -89,5 +91,21 @@ pub fn unit_of_text<F: Fn(Global, &mut Cursor<Token>, Ask) -> Result<Got, Or<Fau
     let cut = cut(alloc, source)?;
     let mut tokens = Cursor::new(cut.tokens.items());
     let read = unit(level, alloc, &mut tokens, nesting);
+    told(&cut, &tokens, read)
+}
+
+/// The tree of a reference text, whose types have at most so many pairs of brackets and so many types open in one another.
+pub fn reference_of_text(
+    alloc: Global,
+    source: &str,
+    limit: u16,
+    nesting: u16,
+) -> Result<Unit, Or<ReadFault>>
+    requires { length source.now ≤ 2 ^ 31 }
+    ensures { IsRead (text_at limit nesting) (text_at (limit + 1) (nesting + 1)) (chars source.now) result }
+{
+    let cut = cut(alloc, source)?;
+    let mut tokens = Cursor::new(cut.tokens.items());
+    let read = reference_text(alloc, &mut tokens, limit, nesting);
     told(&cut, &tokens, read)
 }

@@ -85,9 +85,9 @@ fn show(decl: &Decl, out: &mut String) -> Result<(), Fail> {
     Ok(())
 }
 
-fn shown(alloc: Global, source: &str) -> Result<String, Fail> {
+fn shown(alloc: Global, read: Result<Unit, Or<ReadFault>>) -> Result<String, Fail> {
     let mut out = String::new(alloc);
-    match read(alloc, source) {
+    match read {
         Ok(unit) => {
             for space in unit.spaces.as_slice() {
                 match space {
@@ -130,7 +130,7 @@ fn reads_each_part_of_a_reference_text(rt: HostRuntime) -> Result<(), Fail> {
         ("enum E : int { A = 0, B = -1, }", "A false 0,B true 1,;"),
         ("delegate void D(out int a);", "delegate 1;"),
     ] {
-        assert_eq!(rt; shown(alloc, source)?.as_str(), parts);
+        assert_eq!(rt; shown(alloc, read(alloc, source))?.as_str(), parts);
     }
     Ok(())
 }
@@ -149,7 +149,31 @@ fn faults_stand_at_the_first_token_that_no_text_goes_on_with(rt: HostRuntime) ->
         ("class A { class B { class C", "too deep at 1:21"),
         ("class A { class B { static operator", "unexpected at 1:28"),
     ] {
-        assert_eq!(rt; shown(alloc, source)?.as_str(), fault);
+        assert_eq!(rt; shown(alloc, read(alloc, source))?.as_str(), fault);
+    }
+    Ok(())
+}
+
+/// Reads a reference text in whose types one more may be open.
+fn reference(alloc: Global, source: &str) -> Result<Unit, Or<ReadFault>> {
+    if source.len() > 999 {
+        return Err(Or::NoMemory);
+    }
+    reference_of_text(alloc, source, 2, 1)
+}
+
+#[test]
+fn reference_texts_have_no_blocks(rt: HostRuntime) -> Result<(), Fail> {
+    let alloc = rt.alloc();
+    for (source, parts) in [
+        ("class A { void M(); A(); }", "Class A 0: method maker;"),
+        ("class A { void M() { } }", "unexpected at 1:20"),
+        ("class A { A() : base();", "unexpected at 1:15"),
+        ("class A { int f = 5; }", "unexpected at 1:17"),
+        ("class A { } #", "no token at 1:13"),
+        ("class A { class B { class C", "too deep at 1:21"),
+    ] {
+        assert_eq!(rt; shown(alloc, reference(alloc, source))?.as_str(), parts);
     }
     Ok(())
 }

@@ -1,0 +1,1 @@
+../crates/bench_grammar/data/core.cs
