@@ -1,0 +1,2 @@
+-- What a reader must believe: that what is printed is read back.
+pub mod Laws
