@@ -1,7 +1,7 @@
 -- A text has one answer.
-use Rattle.std.proofs.Common.{◌≡◌, ℕ, List, [], ◌∷◌, Ok, Err, refl, ap, subst}
+use Rattle.std.proofs.Common.{ℕ, List, [], ◌∷◌, Ok, Err, refl, ap, subst}
 use Rattle.dc_base.specs.declared.names.MemberId.{MemberId}
-use Rattle.dc_causes.specs.Step.{Then, go, Told}
+use Rattle.dc_causes.specs.Step.{go}
 use Rattle.dc_causes.specs.Answer.{IsSingle}
 use Rattle.dc_causes.proofs.Single.{err_is, not_both, single-test, single-then, single-told, single-in_order, single-least, single-rounds}
 use Rattle.class_rows.specs.declared.row.TypeRow.{TypeRow}

@@ -1,6 +1,6 @@
 -- Whole reference texts are exact, also with more pairs of brackets and more types open in one another: what the law of cs_references
 -- follows from, which it keeps to itself.
-use Rattle.std.proofs.Common.{◌≡◌, ℕ, zero, suc, ◌+◌, ◌<◌, Bool, true, false, List, [], ◌∷◌, ◌++◌, refl, arith}
+use Rattle.std.proofs.Common.{◌≡◌, ℕ, zero, suc, ◌+◌, ◌<◌, Bool, true, false, List, [], ◌∷◌, refl, arith}
 use Rattle.cs_token.specs.Placed.{Placed as Token}
 use Rattle.cs_tree.specs.declared.declarations.Item.{Item}
 use Rattle.cs_tree.specs.declared.declarations.Decl.{Decl}

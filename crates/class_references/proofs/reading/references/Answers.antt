@@ -15,7 +15,7 @@ returns-in_err-types-clause-fault c =
     rw (p.1, same) (fault_of_text (chars c.args.source.now) _ c.in_err-types.ensures.fault)
 
 pub returns-in-Ok-clause-table : goal.returns-in-Ok-clause-table
-returns-in-Ok-clause-table c = 
+returns-in-Ok-clause-table c =
     let rows = c.in_ok-types.field-0 in
     table_of_rows (chars c.args.source.now) rows.types.items rows.members.items rows.explicit.items c.in-Ok.table c.in_ok-types.ensures.rows c.in-Ok.ensures.rows c.in-Ok.ensures.table
 

@@ -1,4 +1,4 @@
-use Rattle.std.proofs.Common.{◌≡◌, ℕ, ◌+◌, List, sym, ◌∙◌, subst, Result}
+use Rattle.std.proofs.Common.{◌≡◌, ◌+◌, List, sym, ◌∙◌, subst, Result}
 use Rattle.std.specs.Str.{chars}
 use Rattle.dc_base.specs.declared.failure.Or.{Or}
 use Rattle.cs_token.specs.Placed.{Placed as Token}
