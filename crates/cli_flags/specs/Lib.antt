@@ -1,0 +1,2 @@
+-- What a reader must believe: what flags say.
+pub mod Flags
