@@ -8,4 +8,5 @@ mod puts;
 
 pub use fit::{Fit, fits};
 pub use law::parts_are_all;
+pub use place::{arguments, this_depth};
 pub use puts::puts_fit;
