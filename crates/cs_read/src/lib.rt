@@ -6,12 +6,12 @@
 //! ```
 //!
 //! [`read`] is all that the crates above call. What it answers is stated over the text's tokens and the grammar alone, in `cs_read_texts`
-//! ([`specs/Texts`]), and the depths of a text are in [`specs/Depths`].
+//! ([`specs/Texts`]), and the depths of a text are in [`specs/Depths`]. A text has one such answer and no other ([`one_text`]).
 #![tactic(auto)]
 
 mod text;
 
-pub use cs_read_texts::ReadFault;
+pub use cs_read_texts::{ReadFault, one_text};
 pub use text::read;
 
 #[cfg(test)]

@@ -5,6 +5,7 @@ use Rattle.cs_tree.specs.declared.types.Spot.{Spot}
 use Rattle.cs_tree.specs.declared.types.Name.{Name}
 use Rattle.cs_tree.specs.declared.types.TypeForm.{TypeForm}
 use Rattle.cs_tree.specs.declared.forms.Block.{Block}
+use Rattle.cs_tree.specs.declared.forms.Form.{Form}
 use Rattle.cs_tree.specs.declared.forms.Syntax.{Syntax}
 use Rattle.cs_tree.specs.declared.forms.Syntax.TheVariants as syntax
 use Rattle.cs_productions.specs.declared.values.Measured.{Measured}
@@ -21,12 +22,12 @@ second (Ok both) = Ok both.1
 second (Err e) = Err e
 
 -- "for" "(" ";" expr, and behind it
-abbrev pub for_behind : ℕ → Inner → Spot → Measured → Grammar Token Syntax
+abbrev pub for_behind : ℕ → Inner → Spot → Form → Grammar Token Syntax
 for_behind n inner s a = do
   _ ← sign semicolon
   c ← step n inner
   b ← inner.block
-  gives (syntax.For s a.form c b)
+  gives (syntax.For s a c b)
 
 -- ("foreach" | "using") "(" ty, and behind it
 abbrev pub over_behind : ℕ → Inner → ℕ → (Spot → TypeForm → Name → Measured → Block → Syntax) → Spot → TypeForm → Grammar Token Syntax

@@ -17,7 +17,7 @@ use cs_read_calls::{Ask, Got, Level};
 use cs_read_types::kinds::{EQUALS, PAREN, SEMICOLON, UNPAREN};
 use cs_read_types::{any_name, place, ty};
 use cs_token::Token;
-use cs_tree::{Action, Block, Spot, Syntax, TypeForm};
+use cs_tree::{Action, Block, Form, Spot, Syntax, TypeForm};
 use dc_base::Or;
 use std::alloc::Global;
 
@@ -60,7 +60,7 @@ fn for_behind<
     alloc: Global,
     tokens: &mut Cursor<Token>,
     spot: Spot,
-    test: Measured,
+    test: Form,
 ) -> Result<Syntax, Or<Fault>>
     requires callable { F.IsAlwaysCallable here.now.level.read }
     requires exact { (alloc : _) (tokens : _) (ask : _) (result : _) (after : _) → F.post here.now.level.read alloc tokens ask result after → Asked here.now.level.at ask tokens.now result after.now }
@@ -73,7 +73,7 @@ fn for_behind<
     let (step, block) = with_block(&here.level, alloc, tokens, step)?;
     Ok(Syntax::For {
         spot,
-        test: test.form,
+        test,
         step,
         block,
     })
@@ -94,7 +94,7 @@ pub fn of_for<
     expect(tokens, PAREN)?;
     expect(tokens, SEMICOLON)?;
     let test = expression(here, alloc, tokens)?;
-    for_behind(here, alloc, tokens, spot, test)
+    for_behind(here, alloc, tokens, spot, test.form)
 }
 
 fn foreach_behind<

@@ -4,10 +4,11 @@ ghost use Rattle.std.specs.Prelude.{◌≡◌, ◌<◌, nat_lt, [], ◌∷◌, t
 ghost use Rattle.cs_grammar.specs.Grammar.{turns};
 ghost use Rattle.cs_grammar.specs.Reads.{Reads};
 ghost use Rattle.cs_productions.specs.Kinds.{kw_case, kw_default};
-ghost use Rattle.cs_productions.specs.Tokens.{kind as kind_of, word_literal, literal_of};
+ghost use Rattle.cs_productions.specs.Tokens.{kind as kind_of, sign, word_literal, literal_of};
 ghost use Rattle.cs_statements.specs.Structured.{case_label as case_label_of, default_label as default_label_of, label as label_of, one_more_label as one_more_label_of, section as section_of, one_more_section as one_more_section_of, of_switch as of_switch_of};
 ghost use Rattle.cs_read_calls.specs.Asked.{inner_of, Asked};
 ghost use Rattle.cs_read_actions.specs.Place.{WholeRead};
+ghost use Rattle.cs_read_sections.specs.Tails.{done, switch_behind as switch_behind_of};
 
 use cs_grammar::{Cursor, Fault, Kinded, begins, expect, take_one};
 use cs_productions::Measured;
@@ -18,7 +19,7 @@ use cs_read_heads::tested;
 use cs_read_types::kinds::{BRACE, COLON, KW_DEFAULT, KW_NULL, KW_TRUE, UNBRACE};
 use cs_read_types::place;
 use cs_token::{Lexeme, Token};
-use cs_tree::{Literal, Section, SwitchLabel, Syntax};
+use cs_tree::{Form, Literal, Section, Spot, SwitchLabel, Syntax};
 use dc_base::{Items, NoMemory, Or, Seq};
 use std::alloc::Global;
 
@@ -160,6 +161,36 @@ fn sections<F: Fn(Global, &mut Cursor<Token>, Ask) -> Result<Got, Or<Fault>>>(
     Ok(sections)
 }
 
+/// A sign behind what was read, which goes where it isn't there.
+fn ended<A: Drop>(tokens: &mut Cursor<Token>, end: u16, read: A) -> Result<A, Or<Fault>>
+    ensures same { IfOk result (λ a. a ≡ read) }
+    ensures reads { Reads ((sign end).reads tokens.old) (done result) tokens.new }
+{
+    expect(tokens, end)?;
+    Ok(read)
+}
+
+fn switch_behind<F: Fn(Global, &mut Cursor<Token>, Ask) -> Result<Got, Or<Fault>>>(
+    level: &Level<F>,
+    alloc: Global,
+    tokens: &mut Cursor<Token>,
+    spot: Spot,
+    value: Form,
+) -> Result<Syntax, Or<Fault>>
+    requires callable { F.IsAlwaysCallable level.now.read }
+    requires exact { (alloc : _) (tokens : _) (ask : _) (result : _) (after : _) → F.post level.now.read alloc tokens ask result after → Asked level.now.at ask tokens.now result after.now }
+    ensures { Reads ((switch_behind_of (inner_of level.now.at) spot value).reads tokens.old) result tokens.new }
+{
+    expect(tokens, BRACE)?;
+    let sections = sections(level, alloc, tokens)?;
+    let sections = ended(tokens, UNBRACE, sections)?;
+    Ok(Syntax::Switch {
+        spot,
+        value,
+        sections,
+    })
+}
+
 /// `switch (a) { case 7: { } }`
 pub fn of_switch<
     F: Fn(Global, &mut Cursor<Token>, Ask) -> Result<Got, Or<Fault>>,
@@ -173,12 +204,5 @@ pub fn of_switch<
 {
     let spot = place(tokens, KW_SWITCH)?;
     let value = tested(here, alloc, tokens)?;
-    expect(tokens, BRACE)?;
-    let sections = sections(&here.level, alloc, tokens)?;
-    expect(tokens, UNBRACE)?;
-    Ok(Syntax::Switch {
-        spot,
-        value: value.form,
-        sections,
-    })
+    switch_behind(&here.level, alloc, tokens, spot, value.form)
 }
