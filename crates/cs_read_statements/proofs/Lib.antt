@@ -1,1 +1,3 @@
--- No lemmas: the files beside this one prove single functions.
+-- Which calls cite each file in the proof of their clauses. A file without a call serves the files that are cited.
+-- blocks::statements
+pub mod Faults

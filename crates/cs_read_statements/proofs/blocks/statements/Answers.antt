@@ -6,6 +6,7 @@ use Rattle.cs_productions.specs.Tokens.{kind}
 use Rattle.cs_statements.specs.Blocks.{statement, one_more_statement}
 use Rattle.cs_read_types.proofs.Looping.{fail_on, fails_too}
 use Rattle.cs_read_calls.specs.Asked.{inner_of}
+use Rattle.cs_read_statements.proofs.Faults.{fault_of}
 use Rattle.cs_read_statements.proofs.blocks.statements.Goals as goal
 
 pub turns-preserved : goal.turns-preserved
@@ -24,7 +25,7 @@ pub returns-in_err-stmts : goal.returns-in_err-stmts
 returns-in_err-stmts g c =
     let at = c.args.here.now.level.at in
     let is : c.from_residual.result ≡ Err c.in_err-stmts.field-0.0 = search rules in
-    rw is
+    fault_of ((turns kind statement_kinds (λ _. true) (one_more_statement (statement at.left (inner_of at))) []).reads c.args.tokens.now) c.in_err-stmts.field-0.0 c.from_residual.result c.one_more_statement.new.tokens is
     (fails_too (((one_more_statement (statement at.left (inner_of at))) c.turns.stmts).reads c.turns.tokens) ((turns kind statement_kinds (λ _. true) (one_more_statement (statement at.left (inner_of at))) []).reads c.args.tokens.now) c.in_err-stmts.field-0.0 c.one_more_statement.new.tokens c.in_err-stmts.ensures
     (λ deep h. c.turns.invariant
     ∙ fail_on kind statement_kinds (λ _. true) (one_more_statement (statement at.left (inner_of at))) c.left-end.result c.turns.counter c.turns.stmts c.turns.tokens deep c.one_more_statement.new.tokens (omega arith) (sym c.begins.ensures ∙ c.if-not-begins.false) refl h))
