@@ -1,0 +1,2 @@
+-- What a reader must believe: which instructions are aims.
+pub mod Aims

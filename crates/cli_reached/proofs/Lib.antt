@@ -1,0 +1,4 @@
+-- found::Visited::visit
+mod Visiting
+-- found::reached
+mod Closing
