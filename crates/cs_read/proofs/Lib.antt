@@ -1,1 +1,0 @@
--- No lemmas: the files beside this one prove single functions.

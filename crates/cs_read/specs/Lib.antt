@@ -1,2 +1,0 @@
--- What a reader must believe: the depths of a text.
-pub mod Depths
