@@ -4,6 +4,7 @@ ghost use Rattle.std.specs.Prelude.{◌≤◌, ◌^◌, length};
 
 use class_references::{CORE, references};
 use cs_lex::text_of;
+use cs_read::read;
 use dc_base::Or;
 use std::alloc::{AllocError, Global};
 
@@ -23,7 +24,8 @@ fn told_of_text(alloc: Global, task: &str, text: &str) -> Result<String, AllocEr
 {
     match task {
         "references" => told_of_references(alloc, text),
-        _ => String::from_str(alloc, "a task is references"),
+        "read" => told_of_read(alloc, text),
+        _ => String::from_str(alloc, "a task is references or read"),
     }
 }
 
@@ -37,6 +39,16 @@ fn told_of_references(alloc: Global, text: &str) -> Result<String, AllocError>
             table.types(),
             table.members()
         ),
+        Err(Or::Fault(fault)) => format!(in alloc; "{fault}"),
+        Err(Or::NoMemory) => String::from_str(alloc, "no memory"),
+    }
+}
+
+fn told_of_read(alloc: Global, text: &str) -> Result<String, AllocError>
+    requires { length text.now ≤ 2 ^ 31 }
+{
+    match read(alloc, text) {
+        Ok(unit) => format!(in alloc; "{} namespaces and types", unit.spaces.len()),
         Err(Or::Fault(fault)) => format!(in alloc; "{fault}"),
         Err(Or::NoMemory) => String::from_str(alloc, "no memory"),
     }
