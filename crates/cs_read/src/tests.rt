@@ -15,6 +15,7 @@ fn read_short(alloc: Global, source: &str) -> Result<Unit, Or<ReadFault>> {
     read(alloc, source)
 }
 
+#[cycle(showing)]
 fn show_args(args: &[Arg], out: &mut String) -> Result<(), Fail> {
     for arg in args {
         write!(out, " ")?;
