@@ -1,0 +1,1 @@
+-- No lemmas: the files beside this one prove single functions.

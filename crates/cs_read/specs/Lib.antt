@@ -1,0 +1,2 @@
+-- What a reader must believe: the depths of a text.
+pub mod Depths
