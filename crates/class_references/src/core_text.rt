@@ -1,6 +1,6 @@
 // The smallest reference text.
 
-/// A reference text that declares the core types and little else; it stands in `samples/core.cs` too.
+/// A reference text that declares the core types and little else; it stands in `data/core.cs` of `bench_grammar` too.
 pub const CORE: &str = "namespace System {
     public class Object {
         public Object();

@@ -1,1 +1,1 @@
-mod Back
+mod Answered

@@ -1,2 +1,3 @@
 -- What a reader must believe: that what is printed is read back.
 pub mod Laws
+pub mod Printed

@@ -5,6 +5,8 @@
 //! ```
 #![tactic(auto)]
 
+mod back;
 mod laws;
 
+pub use back::printed_and_read;
 pub use laws::printed_texts_are_read;

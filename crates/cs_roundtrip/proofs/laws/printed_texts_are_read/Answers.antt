@@ -1,4 +1,4 @@
-use Rattle.cs_roundtrip.proofs.Back.{printed_read}
+use Rattle.cs_roundtrip.proofs.Answered.{printed_read}
 use Rattle.cs_roundtrip.proofs.laws.printed_texts_are_read.Goals as goal
 
 pub returns : goal.returns

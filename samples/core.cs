@@ -1,1 +1,0 @@
-../crates/bench_grammar/data/core.cs
