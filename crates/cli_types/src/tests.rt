@@ -44,7 +44,10 @@ fn blobs_say_types(rt: HostRuntime) -> Result<(), Fail> {
     let types = types(rt.alloc())?;
     let rows: [(&[u8], Option<Ty>); 14] = [
         (&[6, 0x08], ty(Core::Prim(Prim_::I4), 0, false)),
-        (&[6, 0x1D, 0x1D, 0x02], ty(Core::Prim(Prim_::Bool), 2, false)),
+        (
+            &[6, 0x1D, 0x1D, 0x02],
+            ty(Core::Prim(Prim_::Bool), 2, false),
+        ),
         (&[6, 0x10, 0x0E], ty(Core::Class(TypeId(7)), 0, true)),
         (&[6, 0x1C], ty(Core::Class(TypeId(0)), 0, false)),
         (&[6, 0x12, 0x05], ty(Core::Class(TypeId(0)), 0, false)),
