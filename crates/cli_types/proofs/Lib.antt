@@ -1,0 +1,2 @@
+-- All types, one behind the other.
+pub mod All
