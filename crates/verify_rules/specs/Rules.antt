@@ -1,12 +1,11 @@
 -- The rules in their order, and what it means that an instruction is accepted (ECMA-335 III.1.8).
-use Rattle.std.specs.Prelude.{◌≡◌, ◌⊎◌, ◌+◌, ◌-◌, ◌≤◌, Bool, true, false, List, [], ◌∷◌, length, Ok, MatchBool}
+use Rattle.std.specs.Prelude.{◌≡◌, ◌⊎◌, ◌+◌, ◌-◌, ◌≤◌, Bool, true, false, List, [], ◌∷◌, length, MatchBool}
 use Rattle.dc_causes.specs.Step.{Step, Test, Then, Gives}
 use Rattle.dc_causes.specs.Causes.{InOrder}
 use Rattle.dc_base.specs.declared.ty.Ty.{Ty}
 use Rattle.cil_rows.specs.declared.row.Row.{Row}
 use Rattle.cil_rows.specs.declared.row.Row.TheVariants.{Return}
 use Rattle.verify_slots.specs.declared.slot.Slot.{Slot}
-use Rattle.verify_slots.specs.Slots.{AreIn}
 use Rattle.verify_rules.specs.declared.rule.Rule.{Rule}
 use Rattle.verify_rules.specs.declared.rule.Rule.TheVariants.{Underflow, MaxStack, FallOff, Jump, Empty, InitLocals, Kind, Truth, Assign, ThisStore, InitOnly, Receiver, Gap, Border, Merge, Access}
 use Rattle.verify_rules.specs.declared.setting.Setting.{Setting}
@@ -70,8 +69,3 @@ abbrev pub Accepts : Setting → Spot → Row → List Slot → Step (List Slot)
 Accepts s p row frame r =
     Then (InOrder (λ rule. Test (Keeps s p row frame rule) rule) rules)
     (λ _ q. (of_this : Bool) × TellsThis s p of_this × Gives (leaves s p of_this row frame) q) r
-
--- what accepts a frame accepts each frame in it, and leaves one in the other's result
-abbrev pub NarrowerIsAccepted : Setting → Spot → Row → Type 0
-NarrowerIsAccepted s p row =
-    (f g h : List Slot) → AreIn f g → Accepts s p row g (Ok h) → (k : List Slot) × Accepts s p row f (Ok k) × AreIn k h
