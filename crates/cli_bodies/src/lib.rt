@@ -17,8 +17,6 @@ mod check;
 mod least;
 mod method;
 mod named;
-#[cfg(test)]
-mod tests;
 mod unboxes;
 
 pub use check::check_body;

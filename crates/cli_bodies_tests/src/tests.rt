@@ -1,10 +1,9 @@
 // Bodies that fail a condition alone, and bodies that just don't.
 
-ghost use Rattle.std.specs.Prelude.{};
 ghost use Rattle.std.specs.Bool.{OnTrue};
 ghost use Rattle.cli_assembly.specs.Meaning.{AreInOrder};
 
-use crate::{Failure, Method, check_body};
+use cli_bodies::{Failure, Method, check_body};
 use cil_body::{Body, Clause, ClauseKind};
 use cil_instruction::{Instr, Op};
 use cil_rows::rows_of;

@@ -3,7 +3,7 @@ use Rattle.std.proofs.Common.{slice_index_or}
 use Rattle.dc_base.specs.declared.names.Token.{Token}
 use Rattle.cli_assembly.specs.declared.meaning.Named.{Named}
 use Rattle.cli_assembly.specs.Meaning.{number_of}
-use Rattle.cli_bodies.proofs.tests.in_order.Given as goal
+use Rattle.cli_bodies_tests.proofs.tests.in_order.Given as goal
 
 abbrev pub invariant-loop-k : goal.invariant-loop-k
 invariant-loop-k l =
