@@ -7,7 +7,8 @@ use Rattle.cil_rows.specs.declared.row.Row.TheVariants.{Nop}
 use Rattle.cli_heads.specs.declared.constant.Constant.{Constant}
 use Rattle.cli_heads.specs.declared.constant.Constant.TheVariants.{Null}
 use Rattle.cli_heads.specs.declared.head.Value.{Value}
-use Rattle.cli_heads.specs.declared.head.Value.TheFolds.{Value-F, fold-Value}
+use Rattle.cli_heads.specs.declared.head.Value.TheOpen.{Value-F}
+use Rattle.cli_heads.specs.declared.head.Value.TheFolds.{fold-Value}
 use Rattle.cli_heads.specs.declared.maker.Maker.{Maker}
 use Rattle.cli_heads.specs.Constant.{constant_of, is_out_of_range, is_by_zero}
 use Rattle.cli_heads.specs.Row.{taken, makes_value, reads_argument, is_operator, unboxes}
@@ -62,7 +63,7 @@ told_by s row at of =
       depth = depth_of (constant_of row (first_of of)) of;
       reads = reads_argument row || list_any (λ (t : Told). t.reads) of;
       fine = list_all (λ (t : Told). t.fine) of && makes_value s row && (length of == taken s row) && not (is_odd s row of)
-        && nat_le (depth_of (constant_of row (first_of of)) of) depth_limit;
+          && nat_le (depth_of (constant_of row (first_of of)) of) depth_limit;
     }
 
 abbrev pub node : Maker → Value-F Told → Told

@@ -1,7 +1,7 @@
 // Constants, and operators and conversions of them.
 
 ghost use Rattle.std.specs.Prelude.{◌≡◌};
-ghost use Rattle.cli_heads.specs.Constant.{constant_of, low_bits, in_slot, is_out_of_range, is_by_zero, read_as, fits};
+ghost use Rattle.cli_heads.specs.Constant.{constant_of, null_of, low_bits, in_slot, is_out_of_range, is_by_zero, read_as, fits};
 
 use cil_rows::{Operator, Row};
 use dc_base::Prim_;
@@ -32,7 +32,9 @@ pub(crate) fn constant_of(row: &Row, operand: Option<Constant>) -> Option<Consta
     }
 }
 
-fn null_of(operand: Option<Constant>) -> Option<Constant> {
+fn null_of(operand: Option<Constant>) -> Option<Constant>
+    ensures { result ≡ null_of operand }
+{
     match operand {
         Some(Constant::Null) => Some(Constant::Null),
         _ => None,

@@ -1,6 +1,6 @@
 // Heads read, one instruction after another.
 
-ghost use Rattle.std.specs.Prelude.{◌≡◌, length, IfOk, IfErr};
+ghost use Rattle.std.specs.Prelude.{◌≡◌, ◌<◌, ◌≤◌, ◌^◌, length, IfOk, IfErr, IfSome};
 ghost use Rattle.dc_causes.specs.Answer.{OnFault, ReadBy};
 ghost use Rattle.cil_aims.specs.Aims.{AreMarks};
 ghost use Rattle.cil_rows.specs.Code.{rows_of};
@@ -11,7 +11,8 @@ use crate::constant::{Constant, constant_of, is_by_zero, is_out_of_range};
 use crate::head::{Head, Store, Value};
 use crate::maker::Maker;
 use crate::row::{
-    is_constructor, is_operator, makes_value, named_member, named_row, reads_argument, taken, unboxes,
+    is_constructor, is_operator, makes_value, named_member, named_row, reads_argument, taken,
+    unboxes,
 };
 use cil_rows::Row;
 use class_rows::Sort;
@@ -61,6 +62,8 @@ pub fn read_head(alloc: Global, maker: &Maker<'_>, aimed: &[bool]) -> Result<Hea
     requires order { AreInOrder maker.now.tokens.now }
     requires rows { maker.now.rows.now ≡ rows_of maker.now.body.now.code }
     requires marks { AreMarks maker.now.rows.now aimed.now }
+    requires few { length maker.now.rows.now < 2 ^ 32 }
+    requires class_ { maker.now.class.0 < length maker.now.table.now.types }
     ensures read { IfOk result (ReadBy (ReadsHead maker.now)) }
     ensures fault { IfErr result (OnFault (ReadsHead maker.now)) }
 {
@@ -89,14 +92,19 @@ pub fn read_head(alloc: Global, maker: &Maker<'_>, aimed: &[bool]) -> Result<Hea
     }
 }
 
-fn bad(maker: &Maker<'_>, at: usize) -> BadHead {
+fn bad(maker: &Maker<'_>, at: usize) -> BadHead
+    requires { at < length maker.now.body.now.code }
+{
     BadHead {
         offset: maker.body.code.items()[at].0,
     }
 }
 
 // The number of the first instruction that calls a constructor, and the constructor.
-fn end_of(maker: &Maker<'_>) -> Option<(usize, MemberId)> {
+fn end_of(maker: &Maker<'_>) -> Option<(usize, MemberId)>
+    requires { AreInOrder maker.now.tokens.now }
+    ensures { IfSome result (λ found. (found.0 < length maker.now.rows.now) × (found.1.0 < length maker.now.table.now.members)) }
+{
     for (k, row) in maker.rows.iter().enumerate() {
         if let Row::Call {
             callee,
@@ -112,7 +120,10 @@ fn end_of(maker: &Maker<'_>) -> Option<(usize, MemberId)> {
 }
 
 // Whether no jump leads to an instruction, and no try and no handler holds it.
-fn is_plain(maker: &Maker<'_>, aimed: &[bool], k: usize) -> bool {
+fn is_plain(maker: &Maker<'_>, aimed: &[bool], k: usize) -> bool
+    requires within { k < length maker.now.body.now.code }
+    requires marks { length aimed.now ≡ length maker.now.body.now.code }
+{
     let place = maker.body.code.items()[k].0;
     !aimed[k]
         && maker.body.clauses.items().iter().all(|clause| {
@@ -123,7 +134,11 @@ fn is_plain(maker: &Maker<'_>, aimed: &[bool], k: usize) -> bool {
 
 impl Begun {
     // Whether a head goes on with the instruction, which is taken then.
-    fn take(&mut self, alloc: Global, maker: &Maker<'_>, k: usize) -> Result<bool, NoMemory> {
+    fn take(&mut self, alloc: Global, maker: &Maker<'_>, k: usize) -> Result<bool, NoMemory>
+        requires order { AreInOrder maker.now.tokens.now }
+        requires within { k < length maker.now.rows.now }
+        requires few { length maker.now.rows.now < 2 ^ 32 }
+    {
         match &maker.rows[k] {
             Row::Nop => Ok(true),
             Row::LoadArgument(0) => {
@@ -136,16 +151,20 @@ impl Begun {
     }
 
     // A store, of the one value on the stack to the one `this` under it.
-    fn store(&mut self, maker: &Maker<'_>, k: usize, token: Token) -> Result<bool, NoMemory> {
+    fn store(&mut self, maker: &Maker<'_>, k: usize, token: Token) -> Result<bool, NoMemory>
+        requires order { AreInOrder maker.now.tokens.now }
+        requires few { k < 2 ^ 32 }
+    {
         let Some(field) = own_field(maker, token) else {
             return Ok(false);
         };
         if !self.is_storable(field) {
             return Ok(false);
         }
-        let (Some(Item::Made(made)), Some(Item::This(receiver))) =
-            (self.stack.pop(), self.stack.pop())
-        else {
+        let (Some(Item::Made(made)), Some(Item::This(receiver))) = (
+            self.stack.pop(),
+            self.stack.pop(),
+        ) else {
             return Ok(false);
         };
         self.stores.push(Store {
@@ -170,7 +189,16 @@ impl Begun {
     }
 
     // A value, of those on the stack that the row takes.
-    fn make(&mut self, alloc: Global, maker: &Maker<'_>, k: usize, row: &Row) -> Result<bool, NoMemory> {
+    fn make(
+        &mut self,
+        alloc: Global,
+        maker: &Maker<'_>,
+        k: usize,
+        row: &Row,
+    ) -> Result<bool, NoMemory>
+        requires order { AreInOrder maker.now.tokens.now }
+        requires few { k < 2 ^ 32 }
+    {
         let count = taken(maker, row);
         if !makes_value(maker, row) || self.stack.len() < count {
             return Ok(false);
@@ -203,7 +231,9 @@ impl Begun {
     }
 
     // The instruction at which a refusal stands, where no head goes on with instruction k.
-    fn stop(&self, maker: &Maker<'_>, callee: MemberId, k: usize) -> usize {
+    fn stop(&self, maker: &Maker<'_>, callee: MemberId, k: usize) -> usize
+        requires { callee.0 < length maker.now.table.now.members }
+    {
         match self.stores.first() {
             Some(store) if maker.table.member_row(callee).owner == maker.class => store.at as usize,
             _ => k,
@@ -217,7 +247,11 @@ impl Begun {
         maker: &Maker<'_>,
         end: usize,
         callee: MemberId,
-    ) -> Result<Option<Head>, NoMemory> {
+    ) -> Result<Option<Head>, NoMemory>
+        requires callee { callee.0 < length maker.now.table.now.members }
+        requires class_ { maker.now.class.0 < length maker.now.table.now.types }
+        requires few { end < 2 ^ 32 }
+    {
         let row = maker.table.member_row(callee);
         let count = row.params.len();
         let mut begun = self;
@@ -239,21 +273,24 @@ impl Begun {
     }
 
     // Whether the stack is `this` and so many values, and the constructor may be called behind the stores.
-    fn may_end(&self, maker: &Maker<'_>, callee: MemberId, count: usize) -> bool {
+    fn may_end(&self, maker: &Maker<'_>, callee: MemberId, count: usize) -> bool
+        requires callee { callee.0 < length maker.now.table.now.members }
+        requires class_ { maker.now.class.0 < length maker.now.table.now.types }
+    {
         let owner = maker.table.member_row(callee).owner;
         let base = maker.table.type_row(maker.class).base;
         let of_class = base == Some(owner) || (owner == maker.class && self.stores.is_empty());
         let [Item::This(_), values @ ..] = self.stack.as_slice() else {
             return false;
         };
-        of_class
-            && values.len() == count
-            && values.iter().all(|item| matches!(item, Item::Made(_)))
+        of_class && values.len() == count && values.iter().all(|item| matches!(item, Item::Made(_)))
     }
 }
 
 // The instance field of the class that a token names.
-fn own_field(maker: &Maker<'_>, token: Token) -> Option<MemberId> {
+fn own_field(maker: &Maker<'_>, token: Token) -> Option<MemberId>
+    requires { AreInOrder maker.now.tokens.now }
+{
     let row = named_row(maker, token)?;
     if row.kind.sort() == Sort::Field && !row.is_static && row.owner == maker.class {
         named_member(maker, token)
@@ -263,7 +300,9 @@ fn own_field(maker: &Maker<'_>, token: Token) -> Option<MemberId> {
 }
 
 // What is known of the value that the row makes of these. None where a head may not hold it.
-fn known_of(maker: &Maker<'_>, row: &Row, items: &[Item]) -> Option<Known> {
+fn known_of(maker: &Maker<'_>, row: &Row, items: &[Item]) -> Option<Known>
+    requires { AreInOrder maker.now.tokens.now }
+{
     if items.iter().any(|item| matches!(item, Item::This(_))) {
         return None;
     }
@@ -277,14 +316,15 @@ fn known_of(maker: &Maker<'_>, row: &Row, items: &[Item]) -> Option<Known> {
         return None;
     }
     let constant = constant_of(row, first);
-    let depth = if constant.is_some() {
-        1
+    let under = if constant.is_some() {
+        0
     } else {
-        deepest(items) + 1
+        deepest(items)
     };
-    if depth > DEPTH {
+    if under >= DEPTH {
         return None;
     }
+    let depth = under + 1;
     Some(Known {
         constant,
         depth,

@@ -1,13 +1,13 @@
 // What the instructions of a head do.
 
-ghost use Rattle.std.specs.Prelude.{◌≡◌, slice_get};
+ghost use Rattle.std.specs.Prelude.{◌≡◌, ◌+◌, length, if◌then◌else◌};
 ghost use Rattle.std.specs.Option.{option_copied};
 ghost use Rattle.cli_assembly.specs.Meaning.{AreInOrder};
 ghost use Rattle.cli_heads.specs.Row.{named_ty, named_member, named_row, has_result, is_operator_member, is_constructor, called_with, made_of, taken, is_reference, makes_value, reads_argument, is_operator, unboxes};
 
 use crate::maker::Maker;
 use cil_rows::Row;
-use class_rows::{Kind, MemberRow, Sort};
+use class_rows::{Kind, MemberRow, Param, Sort};
 use cli_assembly::{Named, meaning_of};
 use dc_base::{Core, MemberId, Token, Ty};
 
@@ -75,9 +75,18 @@ fn called_with(row: Option<&MemberRow>) -> usize
     ensures { result ≡ called_with (option_copied row.entry) }
 {
     match row {
-        Some(row) if row.is_static => row.params.len(),
-        Some(row) => row.params.len() + 1,
+        Some(row) => with_receiver(row.is_static, row.params.items()),
         None => 0,
+    }
+}
+
+fn with_receiver(is_static: bool, params: &[Param]) -> usize
+    ensures { result ≡ (if is_static then length params.now else length params.now + 1) }
+{
+    if is_static {
+        params.len()
+    } else {
+        params.len() + 1
     }
 }
 
@@ -88,9 +97,7 @@ fn made_of(maker: &Maker<'_>, row: Option<&MemberRow>) -> usize
     let Some(row) = row else {
         return 0;
     };
-    if row.owner.0 < maker.table.types()
-        && maker.table.type_row(row.owner).kind == Kind::Delegate
-    {
+    if row.owner.0 < maker.table.types() && maker.table.type_row(row.owner).kind == Kind::Delegate {
         return 2;
     }
     row.params.len()

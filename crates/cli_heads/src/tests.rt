@@ -40,7 +40,6 @@ const CORE: [&str; 24] = [
     "DivideByZeroException",
 ];
 
-
 fn class(alloc: Global, k: usize, name: &str, own: bool) -> Result<TypeRow, NoMemory> {
     let base = if k == 0 {
         None
@@ -115,13 +114,45 @@ fn table(alloc: Global) -> Result<Option<ClassTable>, Or<TableFault>> {
     let text = plain(Core::Class(TypeId(4)));
     let int = Core::Prim(Prim_::I4);
     let members = vec![in alloc;
-        member(alloc, 0, ".ctor", MemberKind::Constructor, false, &[], Core::Void)?,
-        member(alloc, 24, ".ctor", MemberKind::Constructor, false, &[], Core::Void)?,
+        member(
+            alloc,
+            0,
+            ".ctor",
+            MemberKind::Constructor,
+            false,
+            &[],
+            Core::Void
+        )?,
+        member(
+            alloc,
+            24,
+            ".ctor",
+            MemberKind::Constructor,
+            false,
+            &[],
+            Core::Void
+        )?,
         member(alloc, 24, "n", FIELD, false, &[], int)?,
         member(alloc, 24, "m", FIELD, false, &[], Core::Prim(Prim_::I8))?,
         member(alloc, 24, "F", MemberKind::Method, true, &[], int)?,
-        member(alloc, 4, "op_Equality", MemberKind::Operator, true, &[text, text], Core::Prim(Prim_::Bool))?,
-        member(alloc, 24, ".ctor", MemberKind::Constructor, false, &[plain(int)], Core::Void)?,
+        member(
+            alloc,
+            4,
+            "op_Equality",
+            MemberKind::Operator,
+            true,
+            &[text, text],
+            Core::Prim(Prim_::Bool)
+        )?,
+        member(
+            alloc,
+            24,
+            ".ctor",
+            MemberKind::Constructor,
+            false,
+            &[plain(int)],
+            Core::Void
+        )?,
     ]?;
     let explicit: Vec<(MemberId, MemberId)> = Vec::new(alloc);
     if !is_buildable(types.as_slice(), members.as_slice(), explicit.as_slice()) {
@@ -184,7 +215,12 @@ fn body(alloc: Global, lines: &[Line], tried: Option<u32>) -> Result<Body, NoMem
 // The text of a head or of the offset at which there is none.
 fn told(alloc: Global, answer: Result<Head, Or<BadHead>>) -> Result<String, NoMemory> {
     match answer {
-        Ok(head) => Ok(format!(in alloc; "{} {} {}", head.stores.len(), head.arguments.len(), head.call)?),
+        Ok(head) => Ok(format!(in alloc;
+            "{} {} {}",
+            head.stores.len(),
+            head.arguments.len(),
+            head.call
+        )?),
         Err(Or::Fault(bad)) => Ok(format!(in alloc; "at {}", bad.offset)?),
         Err(Or::NoMemory) => Err(NoMemory),
     }
@@ -237,7 +273,10 @@ fn heads_and_where_code_is_none(rt: HostRuntime) -> Result<(), Fail> {
     let rows: [(&[Line], &str); 27] = [
         (&[THIS, BASE], "0 0 1"),
         (&[THIS, FIVE, N, THIS, BASE], "1 0 4"),
-        (&[THIS, (Op::Nop, 0), FIVE, N, THIS, F, M, THIS, BASE], "2 0 8"),
+        (
+            &[THIS, (Op::Nop, 0), FIVE, N, THIS, F, M, THIS, BASE],
+            "2 0 8",
+        ),
         (&[THIS, (Op::Ldarg1, 0), (Op::Call, 7)], "0 1 2"),
         (&[], "at 0"),
         (&[THIS, FIVE, N], "at 0"),
@@ -245,7 +284,10 @@ fn heads_and_where_code_is_none(rt: HostRuntime) -> Result<(), Fail> {
         (&[THIS, FIVE, N, THIS, F, N, THIS, BASE], "at 5"),
         (&[THIS, THIS, FIVE, N, BASE], "at 3"),
         (&[THIS, FIVE, N, THIS, OTHER], "at 2"),
-        (&[THIS, FIVE, N, (Op::Ldloc0, 0), (Op::Pop, 0), THIS, OTHER], "at 2"),
+        (
+            &[THIS, FIVE, N, (Op::Ldloc0, 0), (Op::Pop, 0), THIS, OTHER],
+            "at 2",
+        ),
         (&[THIS, (Op::Ldarg1, 0), N, THIS, BASE], "at 2"),
         (&[THIS, (Op::Ldloc0, 0), N, THIS, BASE], "at 1"),
         (&[THIS, FIVE, (Op::Dup, 0), N, THIS, BASE], "at 2"),
@@ -254,21 +296,84 @@ fn heads_and_where_code_is_none(rt: HostRuntime) -> Result<(), Fail> {
         (&[THIS, (Op::Ldfld, 3), THIS, BASE], "at 1"),
         (&[THIS, FIVE, FIVE, (Op::Add, 0), N, THIS, BASE], "at 3"),
         (&[THIS, F, FIVE, (Op::Add, 0), N, THIS, BASE], "1 0 6"),
-        (&[THIS, F, (Op::LdcI40, 0), (Op::Div, 0), N, THIS, BASE], "at 3"),
+        (
+            &[THIS, F, (Op::LdcI40, 0), (Op::Div, 0), N, THIS, BASE],
+            "at 3",
+        ),
         (&[THIS, F, FIVE, (Op::Div, 0), N, THIS, BASE], "1 0 6"),
-        (&[THIS, (Op::LdcI4, 300), (Op::ConvOvfU1, 0), N, THIS, BASE], "at 2"),
-        (&[THIS, (Op::LdcI4, 300), (Op::ConvU1, 0), (Op::ConvOvfI1, 0), N, THIS, BASE], "1 0 6"),
-        (&[THIS, (Op::LdcI4M1, 0), (Op::ConvU4, 0), (Op::ConvOvfI8Un, 0), M, THIS, BASE], "1 0 6"),
-        (&[THIS, (Op::LdcI4M1, 0), (Op::ConvOvfU8, 0), M, THIS, BASE], "at 2"),
-        (&[THIS, (Op::Ldstr, 9), (Op::Ldstr, 9), (Op::Call, 6), N, THIS, BASE], "at 3"),
+        (
+            &[THIS, (Op::LdcI4, 300), (Op::ConvOvfU1, 0), N, THIS, BASE],
+            "at 2",
+        ),
+        (
+            &[
+                THIS,
+                (Op::LdcI4, 300),
+                (Op::ConvU1, 0),
+                (Op::ConvOvfI1, 0),
+                N,
+                THIS,
+                BASE,
+            ],
+            "1 0 6",
+        ),
+        (
+            &[
+                THIS,
+                (Op::LdcI4M1, 0),
+                (Op::ConvU4, 0),
+                (Op::ConvOvfI8Un, 0),
+                M,
+                THIS,
+                BASE,
+            ],
+            "1 0 6",
+        ),
+        (
+            &[THIS, (Op::LdcI4M1, 0), (Op::ConvOvfU8, 0), M, THIS, BASE],
+            "at 2",
+        ),
+        (
+            &[
+                THIS,
+                (Op::Ldstr, 9),
+                (Op::Ldstr, 9),
+                (Op::Call, 6),
+                N,
+                THIS,
+                BASE,
+            ],
+            "at 3",
+        ),
         (&[(Op::Br, 1), THIS, BASE], "at 0"),
     ];
     for (lines, due) in rows {
         check(&rt, alloc, &table, lines, None, due)?;
     }
-    check(&rt, alloc, &table, &[(Op::Nop, 0), THIS, BASE, (Op::Br, 1)], None, "at 1")?;
-    check(&rt, alloc, &table, &[THIS, FIVE, N, THIS, BASE], Some(3), "at 3")?;
-    check(&rt, alloc, &table, &[THIS, FIVE, N, THIS, BASE], Some(5), "1 0 4")?;
+    check(
+        &rt,
+        alloc,
+        &table,
+        &[(Op::Nop, 0), THIS, BASE, (Op::Br, 1)],
+        None,
+        "at 1",
+    )?;
+    check(
+        &rt,
+        alloc,
+        &table,
+        &[THIS, FIVE, N, THIS, BASE],
+        Some(3),
+        "at 3",
+    )?;
+    check(
+        &rt,
+        alloc,
+        &table,
+        &[THIS, FIVE, N, THIS, BASE],
+        Some(5),
+        "1 0 4",
+    )?;
     Ok(())
 }
 
