@@ -1,7 +1,5 @@
 -- Which names are free, of a renaming whose earlier names are given.
-use Rattle.std.specs.Prelude.{◌≡◌, ◌≢◌, ◌⊎◌, ℕ, ◌+◌, ◌<◌, List, [], ◌∷◌, ◌++◌, Option, Some, None, true, false, slice_get, slice_index_or, codes}
-use Rattle.class_rows.specs.declared.row.TypeRow.{TypeRow}
-use Rattle.class_rows.specs.declared.row.MemberRow.{MemberRow}
+use Rattle.std.specs.Prelude.{◌≡◌, ◌≢◌, ◌⊎◌, ℕ, List, [], ◌∷◌, ◌++◌, Some, None, slice_index_or, codes}
 use Rattle.class_rows.specs.declared.row.MemberKind.{MemberKind}
 use Rattle.class_rows.specs.declared.row.MemberKind.TheVariants.{Field}
 use Rattle.class_rows.specs.declared.row.Access.{Access}
@@ -9,11 +7,10 @@ use Rattle.class_rows.specs.declared.row.Access.TheVariants.{Protected, Protecte
 use Rattle.class_rows.specs.Types.{HasType, IsBase, InBaseChain}
 use Rattle.class_rows.specs.Names.{IsFullName, IsReference, IsNamespace, dotted}
 use Rattle.class_rows.specs.Members.{HasMember}
-use Rattle.class_rows.specs.Lookups.{IsOverridden}
-use Rattle.cli_names.specs.Subject.{Subject, Renaming, HasProperty, IsOwnType, IsOwnMember, IsExplicit}
-use Rattle.cli_names.specs.Order.{Thing, AType, AMember, AProperty, IsEarlier}
-use Rattle.cli_names.specs.Groups.{AreGrouped}
-use Rattle.cli_names.specs.Properties.{IsPrinted}
+use Rattle.cli_renaming.specs.Subject.{Subject, Renaming, HasProperty, IsOwnType, IsOwnMember, IsExplicit}
+use Rattle.cli_renaming.specs.Order.{Thing, AType, AMember, AProperty, IsEarlier}
+use Rattle.cli_renaming.specs.Groups.{AreGrouped}
+use Rattle.cli_renaming.specs.Properties.{IsPrinted}
 
 abbrev pub name_in : List (List ℕ) → ℕ → List ℕ
 name_in names k = slice_index_or names k []
@@ -24,7 +21,7 @@ name_in names k = slice_index_or names k []
 pub data IsPrintedName (s : Subject) (r : Renaming) : ℕ → List ℕ → Type 0 where
   at_top : (t : ℕ) → HasType s.types t (λ row. row.outer ≡ None) → IsPrintedName s r t (dotted (name_in r.spaces t) (name_in r.types t))
   nested : (t o : ℕ) (name : List ℕ) → HasType s.types t (λ row. row.outer ≡ Some (record { 0 = o })) → IsPrintedName s r o name
-    → IsPrintedName s r t (name ++ (46 ∷ name_in r.types t))
+      → IsPrintedName s r t (name ++ (46 ∷ name_in r.types t))
 
 -- a printed namespace of own types, or one round it
 abbrev pub IsPrintedSpace : Subject → Renaming → List ℕ → Type 0
@@ -89,7 +86,7 @@ pub record IsFreeIn (s : Subject) (r : Renaming) (t : ℕ) (thing : Thing) (name
   pub field : (m : ℕ) → IsFieldOf s t m → IsEarlier s (AMember m) thing → name_in r.members m ≢ name
   pub property : (p : ℕ) → IsPropertyOf s t p → IsEarlier s (AProperty p) thing → name_in r.properties p ≢ name
   pub accessor : (p : ℕ) → IsPropertyOf s t p → IsPrinted s p
-    → (name ≢ codes "get_" ++ name_in r.properties p) × (name ≢ codes "set_" ++ name_in r.properties p)
+      → (name ≢ codes "get_" ++ name_in r.properties p) × (name ≢ codes "set_" ++ name_in r.properties p)
   pub method : (m : ℕ) → IsMethodOf s t m → IsEarlier s (AMember m) thing → Rivals s thing m → name_in r.members m ≢ name
   pub inherited : (m : ℕ) → IsInherited s t m → (Overrides s thing m → ⊥) → name_in r.members m ≢ name
 

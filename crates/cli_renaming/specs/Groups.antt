@@ -1,12 +1,11 @@
 -- What has to have one name: members that override one another, and public ones that implement a method of an interface.
 -- Explicit implementations take no part.
-use Rattle.std.specs.Prelude.{◌≡◌, ◌≢◌, ◌⊎◌, ℕ, List, Some, slice_get, true, false}
-use Rattle.class_rows.specs.declared.row.Access.TheVariants.{Public}
+use Rattle.std.specs.Prelude.{◌≢◌, ◌⊎◌, ℕ}
 use Rattle.class_rows.specs.Members.{HasMember}
-use Rattle.class_rows.specs.Implemented.{AreAlike, IsDue, IsImplementer}
+use Rattle.class_rows.specs.Implemented.{IsDue, IsImplementer}
 use Rattle.class_rows.specs.Lookups.{IsOverridden}
-use Rattle.cli_names.specs.Subject.{Subject, IsExplicit, IsOwnMember, IsAccessor}
-use Rattle.cli_names.specs.Order.{Thing, AMember, AProperty, IsEarlier}
+use Rattle.cli_renaming.specs.Subject.{Subject, IsExplicit, IsOwnMember, IsAccessor}
+use Rattle.cli_renaming.specs.Order.{AMember, IsEarlier}
 
 -- m overrides n, or is a public member that implements the method n of an interface for some class
 abbrev pub Joins : Subject → ℕ → ℕ → Type 0

@@ -1,11 +1,11 @@
 -- Who is named before whom: first all types by row; then, type by type, its fields, then its properties, then its methods,
 -- by row.
-use Rattle.std.specs.Prelude.{◌≡◌, ◌⊎◌, ℕ, ◌<◌, List, Option, Some, slice_get, slice_index_or}
+use Rattle.std.specs.Prelude.{◌≡◌, ◌⊎◌, ℕ, ◌<◌, Some, slice_get, slice_index_or}
 use Rattle.class_rows.specs.declared.row.MemberRow.{MemberRow}
 use Rattle.class_rows.specs.declared.row.MemberKind.{MemberKind}
 use Rattle.class_rows.specs.declared.row.MemberKind.TheVariants.{Field}
 use Rattle.cli_assembly.specs.declared.assembly.PropertyRow.{PropertyRow}
-use Rattle.cli_names.specs.Subject.{Subject}
+use Rattle.cli_renaming.specs.Subject.{Subject}
 
 -- what is named
 pub data Thing : Type 0 where
@@ -28,9 +28,9 @@ type_row s t = slice_index_or s.type_rows t 0
 
 pub data IsPlaced (s : Subject) : Thing → Place → Type 0 where
   member : (m : ℕ) (row : MemberRow) → slice_get s.members m ≡ Some row
-    → IsPlaced s (AMember m) (record { owner = type_row s row.owner.0; kind = rank row.kind; row = slice_index_or s.member_rows m 0 })
+      → IsPlaced s (AMember m) (record { owner = type_row s row.owner.0; kind = rank row.kind; row = slice_index_or s.member_rows m 0 })
   property : (p : ℕ) (row : PropertyRow) → slice_get s.properties p ≡ Some row
-    → IsPlaced s (AProperty p) (record { owner = type_row s row.owner.0; kind = 1; row = slice_index_or s.property_rows p 0 })
+      → IsPlaced s (AProperty p) (record { owner = type_row s row.owner.0; kind = 1; row = slice_index_or s.property_rows p 0 })
 
 abbrev pub ComesBefore : Place → Place → Type 0
 ComesBefore a b =

@@ -1,15 +1,15 @@
 -- Which properties are printed as such (ECMA-335 II.22.34; ECMA-334 on properties).
-use Rattle.std.specs.Prelude.{◌≡◌, ◌≢◌, ◌⊎◌, ℕ, List, [], ◌∷◌, ◌++◌, Option, Some, None, false, map, slice_get, codes}
+use Rattle.std.specs.Prelude.{◌≡◌, ◌≢◌, ◌⊎◌, ℕ, [], ◌∷◌, ◌++◌, Option, Some, None, false, slice_get, codes}
 use Rattle.dc_base.specs.declared.names.MemberId.{MemberId}
 use Rattle.dc_base.specs.declared.ty.Ty.{Ty}
 use Rattle.dc_base.specs.declared.ty.Core.TheVariants.{Void}
 use Rattle.class_rows.specs.declared.row.MemberRow.{MemberRow}
 use Rattle.class_rows.specs.declared.row.Access.{Access}
-use Rattle.class_rows.specs.declared.row.Access.TheVariants.{Private, PrivateProtected, Internal, Protected, ProtectedInternal, Public}
+use Rattle.class_rows.specs.declared.row.Access.TheVariants.{Private, PrivateProtected, ProtectedInternal, Public}
 use Rattle.class_rows.specs.Members.{types_of}
 use Rattle.cli_assembly.specs.declared.assembly.PropertyRow.{PropertyRow}
-use Rattle.cli_names.specs.Subject.{Subject, HasProperty, IsAccessor}
-use Rattle.cli_names.specs.Groups.{ArePropertiesGrouped}
+use Rattle.cli_renaming.specs.Subject.{Subject, HasProperty, IsAccessor}
+use Rattle.cli_renaming.specs.Groups.{ArePropertiesGrouped}
 
 -- the first may be named wherever the second may
 abbrev pub IsAsWide : Access → Access → Type 0

@@ -1,5 +1,5 @@
 -- The renaming of an assembly: what is legal and free keeps its name, all else has one that is made of its row number.
-use Rattle.std.specs.Prelude.{◌≡◌, ◌≢◌, ◌⊎◌, ℕ, zero, suc, ◌+◌, ◌<◌, List, [], ◌∷◌, ◌++◌, Bool, true, false, Option, Some, None, length, slice_get, slice_index_or, take, codes, All, Contains, MatchBool}
+use Rattle.std.specs.Prelude.{◌≡◌, ◌≢◌, ◌⊎◌, ℕ, zero, suc, ◌<◌, List, [], ◌∷◌, ◌++◌, true, false, Some, None, length, slice_get, slice_index_or, take, codes, All, Contains, MatchBool}
 use Rattle.std.specs.Fmt.{decimal}
 use Rattle.dc_base.specs.Identifiers.{is_legal, is_keyword}
 use Rattle.class_rows.specs.declared.row.TypeRow.{TypeRow}
@@ -7,14 +7,13 @@ use Rattle.class_rows.specs.declared.row.MemberRow.{MemberRow}
 use Rattle.class_rows.specs.declared.row.MemberKind.{MemberKind}
 use Rattle.class_rows.specs.declared.row.MemberKind.TheVariants.{Field, Constructor}
 use Rattle.class_rows.specs.Types.{HasType}
-use Rattle.class_rows.specs.Names.{IsReference, IsFullName, IsNamespace, dotted}
-use Rattle.class_rows.specs.Members.{HasMember, sort_of}
+use Rattle.class_rows.specs.Names.{IsNamespace, dotted}
 use Rattle.cli_assembly.specs.declared.assembly.PropertyRow.{PropertyRow}
-use Rattle.cli_names.specs.Subject.{Subject, Renaming, HasProperty, IsOwnType, IsOwnMember, IsExplicit, IsAccessor}
-use Rattle.cli_names.specs.Order.{Thing, AType, AMember, AProperty, IsEarlier, type_row}
-use Rattle.cli_names.specs.Groups.{AreGrouped, IsFirstOfGroup, HasReference, ArePropertiesGrouped}
-use Rattle.cli_names.specs.Properties.{IsPrinted}
-use Rattle.cli_names.specs.Free.{name_in, IsPrintedName, IsReferenceName, IsFreeType, IsFreeIn, IsNewIn, IsFreeForGroup, IsNewForGroup, IsField}
+use Rattle.cli_renaming.specs.Subject.{Subject, Renaming, HasProperty, IsOwnType, IsOwnMember, IsExplicit}
+use Rattle.cli_renaming.specs.Order.{AProperty, IsEarlier, type_row}
+use Rattle.cli_renaming.specs.Groups.{AreGrouped, IsFirstOfGroup, HasReference, ArePropertiesGrouped}
+use Rattle.cli_renaming.specs.Properties.{IsPrinted}
+use Rattle.cli_renaming.specs.Free.{name_in, IsPrintedName, IsReferenceName, IsFreeType, IsFreeIn, IsNewIn, IsFreeForGroup, IsNewForGroup}
 
 -- ---- names that are made
 
@@ -44,7 +43,7 @@ pub data IsChosen (Kept Free : List ℕ → Type 0) (old base name : List ℕ) :
 pub data AreSegments : List ℕ → List (List ℕ) → Type 0 where
   one : (name : List ℕ) → (Contains name 46 → ⊥) → AreSegments name (name ∷ [])
   more : (first name : List ℕ) (segments : List (List ℕ)) → (Contains first 46 → ⊥) → AreSegments name segments
-    → AreSegments (first ++ (46 ∷ name)) (first ∷ segments)
+      → AreSegments (first ++ (46 ∷ name)) (first ∷ segments)
 
 -- the namespace is one, or is round one
 abbrev pub IsFrontOf : List ℕ → List ℕ → Type 0
@@ -55,11 +54,13 @@ abbrev pub IsKeptSpace : Subject → List ℕ → Type 0
 IsKeptSpace s space =
     (space ≡ [])
     ⊎ (((segments : List (List ℕ)) × AreSegments space segments × All (λ segment. is_legal segment ≡ true) segments)
-      × ((front : List ℕ) → IsFrontOf front space → IsReferenceName s front → ⊥))
+    × ((front : List ℕ) → IsFrontOf front space → IsReferenceName s front → ⊥))
 
--- no namespace and no type of the references has this full name
-abbrev pub IsFreeSpace : Subject → Renaming → List ℕ → Type 0
-IsFreeSpace s r space = (IsReferenceName s space → ⊥) × (IsNamespace s.types space → ⊥) × ((t : ℕ) → IsOwnType s t → HasType s.types t (λ row. row.space ≡ space) → ⊥)
+-- no type, no namespace of the references and no own namespace has this full name
+abbrev pub IsFreeSpace : Subject → List ℕ → Type 0
+IsFreeSpace s space =
+    ((t : ℕ) → IsFullName s.types t space → ⊥) × (IsNamespace s.types space → ⊥)
+    × ((t : ℕ) → HasType s.types t (λ row. (row.own ≡ true) × IsFrontOf space row.space) → ⊥)
 
 -- no own type of this namespace stands before it
 abbrev pub IsFirstOfSpace : Subject → List ℕ → ℕ → Type 0
@@ -70,7 +71,7 @@ IsFirstOfSpace s space t =
 abbrev pub IsSpaceOf : Subject → Renaming → ℕ → Type 0
 IsSpaceOf s r t =
     HasType s.types t (λ row. (first : ℕ) × IsFirstOfSpace s row.space first
-      × IsChosen (IsKeptSpace s) (IsFreeSpace s r) row.space (made (codes "S") (type_row s first)) (name_in r.spaces t))
+    × IsChosen (IsKeptSpace s) (IsFreeSpace s) row.space (made (codes "S") (type_row s first)) (name_in r.spaces t))
 
 -- ---- types
 
@@ -79,15 +80,15 @@ abbrev pub IsFreeAs : Subject → Renaming → ℕ → List ℕ → Type 0
 IsFreeAs s r t name =
     ((full : List ℕ) → WouldBe full → IsFreeType s r t full)
   where
-  WouldBe : List ℕ → Type 0
-  WouldBe full =
-      (HasType s.types t (λ row. row.outer ≡ None) × (full ≡ dotted (name_in r.spaces t) name))
-      ⊎ ((o : ℕ) × (outer : List ℕ) × HasType s.types t (λ row. row.outer ≡ Some (record { 0 = o })) × IsPrintedName s r o outer × (full ≡ outer ++ (46 ∷ name)))
+    WouldBe : List ℕ → Type 0
+    WouldBe full =
+        (HasType s.types t (λ row. row.outer ≡ None) × (full ≡ dotted (name_in r.spaces t) name))
+        ⊎ ((o : ℕ) × (outer : List ℕ) × HasType s.types t (λ row. row.outer ≡ Some (record { 0 = o })) × IsPrintedName s r o outer × (full ≡ outer ++ (46 ∷ name)))
 
 abbrev pub IsTypeNamed : Subject → Renaming → ℕ → Type 0
 IsTypeNamed s r t =
     HasType s.types t (λ row.
-      IsChosen (λ name. (is_legal name ≡ true) × IsFreeAs s r t name) (IsFreeAs s r t) row.name (made (codes "T") (type_row s t)) (name_in r.types t))
+    IsChosen (λ name. (is_legal name ≡ true) × IsFreeAs s r t name) (IsFreeAs s r t) row.name (made (codes "T") (type_row s t)) (name_in r.types t))
 
 -- ---- members
 
@@ -102,8 +103,8 @@ pub data IsMemberNamed (s : Subject) (r : Renaming) (m : ℕ) : Type 0 where
   of_reference : (n : ℕ) (other : MemberRow) → HasReference s m n → slice_get s.members n ≡ Some other → name_in r.members m ≡ other.name → IsMemberNamed s r m
   of_group : (n : ℕ) → ((k : ℕ) → HasReference s m k → ⊥) → AreGrouped s m n → IsFirstOfGroup s n → n ≢ m → name_in r.members m ≡ name_in r.members n → IsMemberNamed s r m
   first : (row : MemberRow) → slice_get s.members m ≡ Some row → (row.kind ≢ Constructor) → ((k : ℕ) → HasReference s m k → ⊥) → IsFirstOfGroup s m
-    → IsChosen (λ name. (is_legal name ≡ true) × IsFreeForGroup s r m name) (λ name. IsFreeForGroup s r m name × IsNewForGroup s m name) row.name (made (letter_of row.kind) (slice_index_or s.member_rows m 0)) (name_in r.members m)
-    → IsMemberNamed s r m
+      → IsChosen (λ name. (is_legal name ≡ true) × IsFreeForGroup s r m name) (λ name. IsFreeForGroup s r m name × IsNewForGroup s m name) row.name (made (letter_of row.kind) (slice_index_or s.member_rows m 0)) (name_in r.members m)
+      → IsMemberNamed s r m
 
 -- no property of the group is named before this one
 abbrev pub IsFirstProperty : Subject → ℕ → Type 0
@@ -113,8 +114,8 @@ IsFirstProperty s p = (q : ℕ) → ArePropertiesGrouped s p q → q ≢ p → I
 pub data IsPropertyNamed (s : Subject) (r : Renaming) (p : ℕ) : Type 0 where
   of_group : (q : ℕ) → ArePropertiesGrouped s p q → IsFirstProperty s q → q ≢ p → name_in r.properties p ≡ name_in r.properties q → IsPropertyNamed s r p
   first : (row : PropertyRow) → slice_get s.properties p ≡ Some row → IsFirstProperty s p
-    → IsChosen (λ name. (is_legal name ≡ true) × IsFreeIn s r row.owner.0 (AProperty p) name) (λ name. IsFreeIn s r row.owner.0 (AProperty p) name × IsNewIn s row.owner.0 name) row.name (made (codes "P") (slice_index_or s.property_rows p 0)) (name_in r.properties p)
-    → IsPropertyNamed s r p
+      → IsChosen (λ name. (is_legal name ≡ true) × IsFreeIn s r row.owner.0 (AProperty p) name) (λ name. IsFreeIn s r row.owner.0 (AProperty p) name × IsNewIn s row.owner.0 name) row.name (made (codes "P") (slice_index_or s.property_rows p 0)) (name_in r.properties p)
+      → IsPropertyNamed s r p
 
 -- ---- parameters
 
@@ -132,8 +133,8 @@ IsKeptParam earlier name = (is_legal name ≡ true) × (is_keyword name ≡ fals
 pub data IsParamNamed (s : Subject) (m : ℕ) (old names : List (List ℕ)) (k : ℕ) : Type 0 where
   value : IsPrintedSetter s m → slice_get names k ≡ Some (codes "value") → IsParamNamed s m old names k
   chosen : (IsPrintedSetter s m → ⊥)
-    → IsChosen (IsKeptParam (take k names)) (IsFreeParam (take k names)) (name_in old k) (codes "a" ++ decimal k) (name_in names k)
-    → IsParamNamed s m old names k
+      → IsChosen (IsKeptParam (take k names)) (IsFreeParam (take k names)) (name_in old k) (codes "a" ++ decimal k) (name_in names k)
+      → IsParamNamed s m old names k
 
 -- the names of all parameters of a method
 abbrev pub AreParamsNamed : Subject → Renaming → ℕ → Type 0
