@@ -4,3 +4,4 @@ pub mod Row
 pub mod Value
 pub mod Head
 pub mod Fault
+pub mod Alike
