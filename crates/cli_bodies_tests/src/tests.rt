@@ -3,13 +3,13 @@
 ghost use Rattle.std.specs.Bool.{OnTrue};
 ghost use Rattle.cli_assembly.specs.Meaning.{AreInOrder};
 
-use cli_bodies::{Failure, Method, check_body};
 use cil_body::{Body, Clause, ClauseKind};
 use cil_instruction::{Instr, Op};
 use cil_rows::rows_of;
 use class_rows::{Access, Kind, TableFault, TypeRow};
 use class_table::{ClassTable, build, is_buildable};
 use cli_assembly::Named;
+use cli_bodies::{Failure, Method, check_body};
 use cli_conditions::Condition;
 use dc_base::{Core, MemberId, NoMemory, Or, Prim_, Seq, Text, Token, Ty, TypeId};
 use std::alloc::Global;
