@@ -1,5 +1,5 @@
 -- What is read from arrays of a narrower set.
-use Rattle.std.proofs.Common.{◌≡◌, ◌⊎◌, ℕ, zero, suc, ◌<◌, Bool, true, false, List, [], ◌∷◌, ◌++◌, Option, Some, None, unwrap_or, inl, inr, refl, sym, ap, ◌∙◌, subst, arith}
+use Rattle.std.proofs.Common.{◌≡◌, ℕ, zero, suc, ◌<◌, Bool, true, false, List, [], ◌∷◌, ◌++◌, Option, Some, None, unwrap_or, inl, inr, refl, sym, ap, ◌∙◌, subst, arith}
 use Rattle.std.proofs.lemmas.List.Elements.{Contains-push, Contains-push_cases, Contains-append_left, Contains-append_right, Contains-append_cases}
 use Rattle.std.specs.List.{Contains}
 use Rattle.std.specs.Option.{option_to_list}
@@ -7,7 +7,6 @@ use Rattle.dc_base.specs.declared.ty.Ty.{Ty}
 use Rattle.dc_base.specs.declared.ty.Core.{Core}
 use Rattle.dc_base.specs.declared.ty.Prim_.{Prim_}
 use Rattle.dc_base.specs.declared.ty.Prim_.TheVariants.{Bool as BoolPrim, Char, I1, U1, I2, U2, I4, U4, I8, U8}
-use Rattle.verify_slots.specs.declared.slot.Slot.{Slot}
 use Rattle.verify_slots.specs.declared.slot.Slot.TheVariants.{Truth, Int, Long}
 use Rattle.verify_slots.specs.Slots.{IsSubset, IsIn}
 use Rattle.verify_rules.specs.Held.{element_of, number_slot, size_of}

@@ -1,7 +1,6 @@
 -- Addresses, gaps and borders at a narrower frame: an address lies in none but itself.
-use Rattle.std.proofs.Common.{◌≡◌, ℕ, true, false, List, [], ◌∷◌, ◌++◌, length, slice_get, take, drop, refl, sym, ap, ◌∙◌, subst}
+use Rattle.std.proofs.Common.{◌≡◌, ℕ, true, false, List, [], ◌∷◌, ◌++◌, take, drop, refl, sym, ap, ◌∙◌, subst}
 use Rattle.std.specs.List.{Contains}
-use Rattle.dc_base.specs.declared.ty.Ty.{Ty}
 use Rattle.cil_rows.specs.declared.row.Row.{Row}
 use Rattle.cil_rows.specs.declared.row.Row.TheVariants.{Dup, Function, LoadIndirect}
 use Rattle.verify_slots.specs.declared.slot.Slot.{Slot}
@@ -10,7 +9,7 @@ use Rattle.verify_rules.specs.declared.setting.Setting.{Setting}
 use Rattle.verify_rules.specs.declared.setting.Spot.{Spot}
 use Rattle.verify_rules.specs.Slots.{IsBy, IsFleeting, IsCode, One}
 use Rattle.verify_rules.specs.Puts.{taken}
-use Rattle.verify_rules.specs.Gap.{makers, makers_of, used, used_in, Disturbs, IsTested, IsTouching, Reads, MayCopy, MayUse, HasNoGap, Jumps, KeepsBorder}
+use Rattle.verify_rules.specs.Gap.{makers, makers_of, used, used_in, Disturbs, IsTested, HasNoGap, KeepsBorder}
 use Rattle.verify_narrower.proofs.View.{View, same, truth, refs, view, raise, in_take, in_drop, over, held}
 
 makers_by : (a b : Slot) → View a b → makers_of a ≡ makers_of b

@@ -1,24 +1,21 @@
 -- Kinds of slots that a narrower frame has where the wider one has them.
-use Rattle.std.proofs.Common.{◌≡◌, ◌⊎◌, ℕ, zero, suc, ◌≤◌, ◌<◌, Bool, true, false, List, [], ◌∷◌, Option, Some, None, length, slice_get, inl, inr, refl, sym, ap, subst, arith}
-use Rattle.std.specs.List.{Contains}
+use Rattle.std.proofs.Common.{◌≡◌, Bool, true, List, [], ◌∷◌, inl, inr, refl, arith}
 use Rattle.dc_base.specs.declared.ty.Ty.{Ty}
 use Rattle.dc_base.specs.declared.ty.Prim_.{Prim_}
 use Rattle.dc_base.specs.declared.ty.Prim_.TheVariants.{I8, U8}
-use Rattle.cil_rows.specs.declared.row.Access.{Access}
 use Rattle.cil_rows.specs.declared.row.Test.{Test}
 use Rattle.cil_rows.specs.declared.row.Test.TheVariants.{Greater}
 use Rattle.verify_slots.specs.declared.slot.Slot.{Slot}
 use Rattle.verify_slots.specs.declared.slot.Slot.TheVariants.{Truth, Int, Refs}
 use Rattle.verify_slots.specs.declared.slot.Mark.{Mark}
-use Rattle.verify_slots.specs.Slots.{IsSubset, IsMarkIn, IsIn, AreIn}
+use Rattle.verify_slots.specs.Slots.{IsSubset, IsIn}
 use Rattle.verify_rules.specs.declared.setting.Setting.{Setting}
 use Rattle.verify_rules.specs.declared.setting.Spot.{Spot}
 use Rattle.verify_rules.specs.declared.held.Held.{Held}
 use Rattle.verify_rules.specs.declared.held.Held.TheVariants.{Number, Reference, Opaque, Address, Nothing}
-use Rattle.verify_rules.specs.Slots.{Is32, Is64, IsNumber, IsLength, IsReference, IsNull, IsCode, AreOneSize, AreReferences, One, Two, Three}
+use Rattle.verify_rules.specs.Slots.{Is32, Is64, IsNumber, IsLength, IsReference, IsNull, IsCode, AreOneSize, AreReferences}
 use Rattle.verify_rules.specs.Puts.{FitsKind, FitsNumber}
-use Rattle.verify_rules.specs.Kinds.{IsKept, IsCompared, TellsReferences, IsLengthTest, IsBranchedOn, IsCondition, IsConverted, AreArrays, IsArrayOf, HasLength, IsAddressOf}
-use Rattle.verify_narrower.specs.Narrower.{IsOnce, HasOnce}
+use Rattle.verify_rules.specs.Kinds.{IsKept, IsCompared, TellsReferences, IsBranchedOn, IsCondition, IsConverted}
 use Rattle.verify_narrower.proofs.View.{lower}
 
 pub kept_32 : (a b : Slot) → IsIn a b → Is32 b → Is32 a

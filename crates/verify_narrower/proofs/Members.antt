@@ -1,7 +1,5 @@
 -- Stores, receivers, delegates and names at a narrower frame.
-use Rattle.std.proofs.Common.{◌≡◌, ◌≢◌, ◌⊎◌, ℕ, zero, suc, Bool, true, false, List, [], ◌∷◌, Option, Some, None, length, slice_get, inl, inr, refl, sym, ap, ◌∙◌, subst}
-use Rattle.std.specs.List.{Contains}
-use Rattle.dc_base.specs.declared.ty.Ty.{Ty}
+use Rattle.std.proofs.Common.{◌≡◌, ◌≢◌, ℕ, zero, suc, Bool, true, false, List, [], ◌∷◌, Option, Some, None, length, slice_get, inl, inr, refl}
 use Rattle.dc_base.specs.declared.names.TypeId.{TypeId}
 use Rattle.dc_base.specs.declared.names.MemberId.{MemberId}
 use Rattle.class_rows.specs.declared.row.MemberRow.{MemberRow}
@@ -12,17 +10,17 @@ use Rattle.class_rows.specs.Lookups.{class_ty}
 use Rattle.cil_rows.specs.declared.row.Row.{Row}
 use Rattle.cil_rows.specs.declared.row.Row.TheVariants.{Call, New, Function, FieldAddress, StoreField}
 use Rattle.verify_slots.specs.declared.slot.Slot.{Slot}
-use Rattle.verify_slots.specs.declared.slot.Slot.TheVariants.{Truth, Int, Refs, Code}
+use Rattle.verify_slots.specs.declared.slot.Slot.TheVariants.{Code}
 use Rattle.verify_slots.specs.declared.slot.Mark.{Mark}
 use Rattle.verify_slots.specs.declared.slot.Mark.TheVariants.{This, Fresh, Other}
-use Rattle.verify_slots.specs.Slots.{IsSubset, IsMarkIn, IsIn, AreIn}
+use Rattle.verify_slots.specs.Slots.{IsMarkIn, IsIn, AreIn}
 use Rattle.verify_rules.specs.declared.setting.Setting.{Setting}
 use Rattle.verify_rules.specs.declared.setting.Spot.{Spot}
 use Rattle.verify_rules.specs.Look.{types_of, members_of, named_member, named_row, member_at}
-use Rattle.verify_rules.specs.Slots.{IsMarked, IsNull, Two}
+use Rattle.verify_rules.specs.Slots.{IsMarked, Two}
 use Rattle.verify_rules.specs.Puts.{this_depth}
 use Rattle.verify_rules.specs.Kinds.{IsSo}
-use Rattle.verify_rules.specs.Members.{IfSo, KeepsInitOnly, IsWritableOn, IsAddress, IsReceivedBy, IsReceived, KeepsReceiver, IsTarget, FitsInvoke, IsMadeOf, MakesDelegate, KeepsDelegate, invoke_of, MayBeNamed, IsReachedBy, IsReached, IsFunction, IsFunctionOf, IsNamed, KeepsAccess, member_named, token_of, through}
+use Rattle.verify_rules.specs.Members.{IfSo, KeepsInitOnly, IsWritableOn, IsAddress, IsReceivedBy, IsReceived, KeepsReceiver, IsTarget, FitsInvoke, IsMadeOf, MakesDelegate, KeepsDelegate, invoke_of, IsReachedBy, IsReached, IsFunction, IsFunctionOf, IsNamed, KeepsAccess, member_named, token_of}
 use Rattle.verify_narrower.proofs.View.{View, same, truth, refs, view, lower}
 use Rattle.verify_narrower.proofs.Kept.{kept_null}
 use Rattle.verify_narrower.proofs.Puts.{assignable_in}

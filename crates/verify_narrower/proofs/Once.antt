@@ -1,7 +1,6 @@
 -- What an instruction leaves is a frame, where it is given one.
-use Rattle.std.proofs.Common.{◌≡◌, ℕ, zero, suc, Bool, true, false, List, [], ◌∷◌, ◌++◌, Option, Some, None, take, drop, map, inl, inr, refl, sym, subst, if◌then◌else◌}
+use Rattle.std.proofs.Common.{ℕ, zero, suc, Bool, true, false, List, [], ◌∷◌, ◌++◌, Option, Some, None, drop, map, inl, inr, subst, if◌then◌else◌}
 use Rattle.std.proofs.lemmas.List.Elements.{Contains-push_cases, Contains-append_cases}
-use Rattle.std.specs.List.{Contains}
 use Rattle.std.specs.Option.{option_to_list}
 use Rattle.dc_base.specs.declared.ty.Ty.{Ty}
 use Rattle.dc_base.specs.declared.ty.Prim_.{Prim_}
@@ -26,7 +25,7 @@ use Rattle.verify_rules.specs.Held.{held_by, element_of, number_slot, slot_held}
 use Rattle.verify_rules.specs.Puts.{taken, result_of, field_ty}
 use Rattle.verify_rules.specs.Kinds.{held_named}
 use Rattle.verify_rules.specs.Gap.{used}
-use Rattle.verify_rules.specs.Results.{leaves, given_slots, gives_slot, left, settled, slot_there, argument_slot, is_static_of, address_of, number_of, bits_of, lower_of, upper_of, converted, least_number, upper_held, number_read, element_read, array_read, place_read, array_made, object_made, code_of, instance_of, instance_held, cast_to}
+use Rattle.verify_rules.specs.Results.{leaves, given_slots, gives_slot, left, settled, slot_there, argument_slot, is_static_of, address_of, number_of, bits_of, lower_of, upper_of, converted, upper_held, number_read, element_read, array_read, place_read, array_made, object_made, code_of, instance_of, instance_held, cast_to}
 use Rattle.verify_narrower.specs.Narrower.{IsOnce, HasOnce, IsFrame}
 use Rattle.verify_narrower.proofs.Elements.{nothing, once_elements}
 use Rattle.verify_narrower.proofs.Taken.{first_of, rest_of}

@@ -1,27 +1,23 @@
 -- What is put fits at a narrower frame.
-use Rattle.std.proofs.Common.{◌≡◌, ◌-◌, ℕ, List, Option, Some, length, slice_get, refl, sym, ap, ◌∙◌, subst}
+use Rattle.std.proofs.Common.{◌≡◌, ◌-◌, List, Some, length, refl, sym, ap, ◌∙◌, subst}
 use Rattle.std.specs.List.{Contains}
 use Rattle.dc_base.specs.declared.ty.Ty.{Ty}
 use Rattle.dc_base.specs.declared.ty.Prim_.{Prim_}
 use Rattle.dc_base.specs.declared.ty.Prim_.TheVariants.{Bool as BoolPrim}
 use Rattle.class_rows.specs.declared.row.TypeRow.{TypeRow}
-use Rattle.class_rows.specs.declared.row.Param.{Param}
 use Rattle.class_rows.specs.Lookups.{AreAssignable}
 use Rattle.cil_rows.specs.declared.row.Row.{Row}
-use Rattle.cil_rows.specs.declared.row.Row.TheVariants.{StoreElement, StoreIndirect}
-use Rattle.cil_rows.specs.declared.row.Access.{Access}
 use Rattle.verify_slots.specs.declared.slot.Slot.{Slot}
-use Rattle.verify_slots.specs.declared.slot.Slot.TheVariants.{Truth, Int, Refs, Lent}
+use Rattle.verify_slots.specs.declared.slot.Slot.TheVariants.{Truth, Refs, Lent}
 use Rattle.verify_slots.specs.declared.slot.Mark.{Mark}
 use Rattle.verify_slots.specs.declared.slot.Tested.{Tested}
 use Rattle.verify_slots.specs.Slots.{IsSubset, IsIn, AreIn}
 use Rattle.verify_rules.specs.declared.setting.Setting.{Setting}
 use Rattle.verify_rules.specs.declared.held.Held.{Held}
-use Rattle.verify_rules.specs.declared.held.Held.TheVariants.{Number, Reference, Opaque, Address, Nothing}
-use Rattle.verify_rules.specs.Held.{element_of}
+use Rattle.verify_rules.specs.declared.held.Held.TheVariants.{Number, Reference, Address}
 use Rattle.verify_rules.specs.Puts.{IsPut, at_top, as_receiver, as_argument, through_address, into_array, this_depth, arguments, FitsTruth, FitsType}
 use Rattle.verify_rules.specs.Rules.{PutsFit}
-use Rattle.verify_narrower.proofs.View.{View, same, truth, refs, view, lower, over, Over, contains_at, at_contains}
+use Rattle.verify_narrower.proofs.View.{View, same, truth, refs, view, lower, over, contains_at, at_contains}
 
 -- what is put at the narrower frame is put at the wider one, and lies in it
 record PutOver (s : Setting) (row : Row) (g : List Slot) (a : Slot) (ty : Ty) : Type 0 where

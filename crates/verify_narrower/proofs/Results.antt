@@ -1,6 +1,5 @@
 -- What an instruction leaves at a narrower frame lies in what it leaves at the wider one.
-use Rattle.std.proofs.Common.{◌≡◌, ◌⊎◌, ℕ, zero, suc, ◌+◌, ◌≤◌, ◌<◌, ◌==◌, Bool, true, false, List, [], ◌∷◌, ◌++◌, Option, Some, None, length, slice_get, take, drop, map, inl, inr, refl, sym, ap, ◌∙◌, subst, arith}
-use Rattle.std.specs.List.{Contains, list_any}
+use Rattle.std.proofs.Common.{◌≡◌, ℕ, Bool, List, [], ◌∷◌, Option, Some, None, drop, map, inl, inr, refl, sym, subst, arith}
 use Rattle.std.specs.Option.{option_to_list}
 use Rattle.dc_base.specs.declared.ty.Ty.{Ty}
 use Rattle.dc_base.specs.declared.ty.Prim_.{Prim_}
@@ -9,10 +8,8 @@ use Rattle.cil_rows.specs.declared.row.Row.TheVariants.{Dup, Leave, Arithmetic, 
 use Rattle.cil_rows.specs.declared.row.Access.{Access}
 use Rattle.cil_rows.specs.declared.row.Access.TheVariants.{Number, Reference, Typed}
 use Rattle.verify_slots.specs.declared.slot.Slot.{Slot}
-use Rattle.verify_slots.specs.declared.slot.Slot.TheVariants.{Truth, Int, Long, Refs, Lent}
-use Rattle.verify_slots.specs.declared.slot.Mark.{Mark}
+use Rattle.verify_slots.specs.declared.slot.Slot.TheVariants.{Truth, Int, Refs}
 use Rattle.verify_slots.specs.declared.slot.Mark.TheVariants.{Other}
-use Rattle.verify_slots.specs.declared.slot.Tested.TheVariants.{Yes, By}
 use Rattle.verify_slots.specs.Slots.{IsSubset, IsIn, AreIn}
 use Rattle.verify_rules.specs.declared.setting.Setting.{Setting}
 use Rattle.verify_rules.specs.declared.setting.Spot.{Spot}
@@ -25,7 +22,7 @@ use Rattle.verify_rules.specs.Kinds.{IsTaken, IsSo, IsSized, Accesses, AreArrays
 use Rattle.verify_rules.specs.Puts.{taken}
 use Rattle.verify_rules.specs.Gap.{used}
 use Rattle.verify_rules.specs.Results.{leaves, given_slots, gives_slot, left, settled, number_of, bits_of, lower_of, upper_of, array_read, element_read, number_read, upper_held, least_number, elements, place_read, slot_there}
-use Rattle.verify_narrower.proofs.View.{View, same, truth, refs, view, in_itself, in_append, in_map, in_drop}
+use Rattle.verify_narrower.proofs.View.{View, same, truth, refs, view, in_append, in_map, in_drop}
 use Rattle.verify_narrower.proofs.Elements.{nothing, one, least_in, elements_in}
 use Rattle.verify_narrower.proofs.Gaps.{used_same}
 

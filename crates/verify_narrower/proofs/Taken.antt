@@ -1,9 +1,8 @@
 -- The kinds of slots that an instruction takes, at a narrower frame.
-use Rattle.std.proofs.Common.{◌≡◌, ◌⊎◌, ℕ, zero, suc, ◌+◌, ◌≤◌, ◌<◌, Bool, List, [], ◌∷◌, Option, Some, None, length, get_or, slice_get, inl, inr, refl, sym, ap, ◌∙◌, subst, arith}
+use Rattle.std.proofs.Common.{◌≡◌, suc, ◌≤◌, List, [], ◌∷◌, Option, Some, None, length, get_or, slice_get, inl, inr, refl, sym, ap, ◌∙◌, arith}
 use Rattle.std.proofs.lemmas.List.{get_or_default}
 use Rattle.std.specs.List.{Contains}
 use Rattle.dc_base.specs.declared.ty.Ty.{Ty}
-use Rattle.dc_base.specs.declared.names.Token.{Token}
 use Rattle.class_rows.specs.declared.row.TypeRow.{TypeRow}
 use Rattle.class_rows.specs.declared.row.MemberRow.{MemberRow}
 use Rattle.cil_rows.specs.declared.row.Row.{Row}
