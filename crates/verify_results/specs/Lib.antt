@@ -1,0 +1,2 @@
+-- Inner facts: a slot twice.
+pub mod Twice
