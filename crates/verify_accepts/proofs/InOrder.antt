@@ -1,7 +1,7 @@
 -- Rules in their order: the first, and those behind it.
-use Rattle.std.proofs.Common.{◌≡◌, ◌≤◌, ◌-◌, List, [], ◌∷◌, Result, Ok, Err, length, get_or, take, drop, refl, subst, arith}
+use Rattle.std.proofs.Common.{◌≤◌, ◌-◌, List, [], ◌∷◌, Result, Err, length, get_or, take, drop, refl, subst, arith}
 use Rattle.std.proofs.lemmas.List.{take_rest}
-use Rattle.dc_causes.specs.Step.{Step, Test, stop, go}
+use Rattle.dc_causes.specs.Step.{Test, stop, go}
 use Rattle.dc_causes.specs.Causes.{InOrder}
 use Rattle.verify_rules.specs.declared.rule.Rule.{Rule}
 

@@ -2,7 +2,6 @@ use Rattle.std.proofs.Common.{◌-◌, Ok, Err, length, take, drop}
 use Rattle.std.proofs.lemmas.Result.{IfOk-weaker, IfErr-weaker}
 use Rattle.dc_causes.specs.Step.{Test}
 use Rattle.dc_causes.specs.Causes.{InOrder}
-use Rattle.verify_rules.specs.declared.rule.Rule.{Rule}
 use Rattle.verify_rules.specs.declared.rule.Rule.TheVariants.{Underflow}
 use Rattle.verify_rules.specs.Rules.{Keeps}
 use Rattle.verify_accepts.proofs.InOrder.{more, first}
