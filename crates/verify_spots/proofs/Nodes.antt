@@ -1,6 +1,5 @@
 -- Nodes and regions.
-use Rattle.std.proofs.Common.{◌≡◌, ◌⊎◌, ℕ, ◌+◌, ◌<◌, ◌≤◌, Bool, true, false, List, length, get_or, inl, inr, sym, ap, ◌∙◌, subst, arith}
-use Rattle.std.proofs.lemmas.Bool.{cases_lt}
+use Rattle.std.proofs.Common.{◌≡◌, ℕ, ◌<◌, Bool, true, false, List, length, get_or, sym, ap, ◌∙◌, subst, arith}
 use Rattle.std.proofs.lemmas.List.{get_or_default}
 use Rattle.std.proofs.lemmas.List.Elements.{Contains-get_or}
 use Rattle.std.proofs.lemmas.List.Sorted.{Contains-permutation, IsPermutation-sym}
@@ -13,6 +12,7 @@ use Rattle.cil_regions.specs.declared.region.Span.{Span}
 use Rattle.cil_regions.specs.Region.{AreNodes, IsNode, spans_of}
 use Rattle.verify_bodies.specs.Spots.{HasRegion}
 use Rattle.verify_spots.specs.declared.region.Question.{Question}
+use Rattle.verify_spots.specs.declared.region.Question.TheVariants.{BeginsTry}
 use Rattle.verify_spots.specs.Questions.{Asks, HasNode, HasNoNode, span_of}
 
 -- what holds of the kind and the range of a region holds of its node, and the other way round
@@ -53,30 +53,28 @@ module _ (Fact : RegionKind → ℕ → ℕ → Type 0) where
               (sym (is.kind ∙ ap (λ (x : Span). x.kind) has.2)) (sym (is.from ∙ ap (λ (x : Span). x.from) has.2)) (sym (is.to ∙ ap (λ (x : Span). x.to) has.2)) fact,
         )
 
+-- which clause a region is of is not asked
+module _ (body : Body) (i j : ℕ) where
+  to_any : (question : Question) (r : Span) → Asks body question i j (record { kind = r.kind; from = r.from; to = r.to; first = 0 }) → Asks body question i j r
+  to_any BeginsTry r h = h
+  to_any _ r h = h
+
+  from_any : (question : Question) (r : Span) → Asks body question i j r → Asks body question i j (record { kind = r.kind; from = r.from; to = r.to; first = 0 })
+  from_any BeginsTry r h = h
+  from_any _ r h = h
+
 module _ (body : Body) (nodes : List Region) (are : AreNodes body nodes) (question : Question) (i j : ℕ) where
   pub some : (b : Bool) → OnTrue b (HasNode (Asks body question i j) nodes) → OnTrue b (HasRegion body (Asks body question i j))
-  some true h = to_region (λ k f t. Asks body question i j (record { kind = k; from = f; to = t; first = 0 })) body nodes are h.0 h.1 h.2
+  some true h =
+      let r = to_region (λ k f t. Asks body question i j (record { kind = k; from = f; to = t; first = 0 })) body nodes are h.0 h.1 h.2 in
+      (r.0, r.1, to_any body i j question r.0 r.2)
   some false h = tt
 
   pub none : (b : Bool) → OnFalse b (HasNoNode (Asks body question i j) nodes) → OnFalse b (HasRegion body (Asks body question i j) → ⊥)
   none true h = tt
   none false h = λ has.
-      let n = to_node (λ k f t. Asks body question i j (record { kind = k; from = f; to = t; first = 0 })) body nodes are has.0 has.1 has.2 in h n.0 n.1 n.2
+      let n = to_node (λ k f t. Asks body question i j (record { kind = k; from = f; to = t; first = 0 })) body nodes are has.0 has.1 (from_any body i j question has.0 has.2) in h n.0 n.1 n.2
 
--- nodes one after another
-module _ {A : Type 0} (Fact : A → Type 0) (xs : List A) where
-  pub none_more : (i : ℕ) (d : A) → i < length xs → (Fact (get_or xs i d) → ⊥)
-      → ((k : ℕ) (e : A) → k < i → Fact (get_or xs k e) → ⊥)
-      → (k : ℕ) (e : A) → k < i + 1 → Fact (get_or xs k e) → ⊥
-  none_more i d lt off before k e less is = elim (cases_lt k i) [
-    | inl lower ↦ before k e lower is
-    | inr more ↦
-        let same : k ≡ i = omega (arith, less, more) in
-        off (subst Fact (ap (λ j. get_or xs j e) same ∙ get_or_default xs i e d lt) is)
-  ]
-
-  pub none_of_all : (i : ℕ) → length xs ≤ i → ((k : ℕ) (e : A) → k < i → Fact (get_or xs k e) → ⊥) → (x : A) → Contains xs x → Fact x → ⊥
-  none_of_all i past none x has is = none has.0 x (let lt = has.1 in omega (arith, lt, past)) (subst Fact (sym has.2) is)
-
-  pub some_here : (i : ℕ) (d : A) → i < length xs → Fact (get_or xs i d) → (x : A) × Contains xs x × Fact x
-  some_here i d lt is = (get_or xs i d, Contains-get_or xs i d lt, is)
+-- items one after another
+pub none_here : {A : Type 0} (Fact : A → Type 0) (xs : List A) (i : ℕ) (d : A) → i < length xs → (Fact (get_or xs i d) → ⊥) → (e : A) → Fact (get_or xs i e) → ⊥
+none_here Fact xs i d lt off e is = off (subst Fact (get_or_default xs i e d lt) is)

@@ -1,7 +1,9 @@
 -- What is asked of the regions of a body, between two instructions.
-use Rattle.std.specs.Prelude.{◌≡◌, ◌≢◌, ℕ, List, Contains}
+use Rattle.std.specs.Prelude.{◌≡◌, ◌≢◌, ℕ, ◌<◌, List, length, slice_index_or, Contains}
 use Rattle.cil_body.specs.declared.body.Body.{Body}
 use Rattle.cil_regions.specs.declared.region.RegionKind.TheVariants.{Code, Finally}
+use Rattle.cil_body.specs.declared.body.Clause.{Clause}
+use Rattle.cil_regions.specs.Region.{try_of, handler_of}
 use Rattle.cil_regions.specs.declared.region.Region.{Region}
 use Rattle.cil_regions.specs.declared.region.Span.{Span}
 use Rattle.verify_bodies.specs.Spots.{IsTry, IsHandler, IsFirstOf, StandsIn, Crosses}
@@ -26,3 +28,12 @@ HasNode Fact nodes = (node : Region) × Contains nodes node × Fact (span_of nod
 
 abbrev pub HasNoNode : (Span → Type 0) → List Region → Type 0
 HasNoNode Fact nodes = (node : Region) → Contains nodes node → Fact (span_of node) → ⊥
+
+-- the one instruction stands in the handler of a clause, and the other in its try
+abbrev pub IsOwnTry : Body → List Clause → ℕ → Clause → ℕ → ℕ → Type 0
+IsOwnTry body clauses n c i j = StandsIn body (handler_of n c) i × StandsIn body (try_of clauses n c) j
+
+abbrev pub HasOwnTry : Body → List Clause → ℕ → ℕ → Type 0
+HasOwnTry body clauses i j =
+    (n : ℕ) × (c : Clause) × ((n < length clauses) × (slice_index_or clauses n c ≡ c))
+    × StandsIn body (handler_of n c) i × StandsIn body (try_of clauses n c) j

@@ -1,8 +1,9 @@
 // Where the head of a constructor ends.
 
-ghost use Rattle.std.specs.Prelude.{◌≡◌};
+ghost use Rattle.std.specs.Prelude.{◌≡◌, Some};
 ghost use Rattle.std.specs.Bool.{OnTrue, OnFalse};
 ghost use Rattle.std.specs.Option.{option_copied};
+ghost use Rattle.class_rows.specs.declared.row.Kind.TheVariants.{Class};
 ghost use Rattle.cli_assembly.specs.Meaning.{AreInOrder};
 ghost use Rattle.verify_rules.specs.Look.{method_row};
 ghost use Rattle.verify_rules.specs.Kinds.{IsSo};
@@ -32,13 +33,26 @@ fn is_in_constructor(setting: &Setting<'_>) -> bool
     ensures no { OnFalse result (IsSo (IsOfClass setting.now) (method_row setting.now) → ⊥) }
 {
     match member_at(setting.table, setting.method) {
-        Some(method) => is_constructor(method) && is_class(owner_kind(setting, method)),
+        Some(method) => is_of_class(setting, method),
         None => false,
     }
 }
 
-fn is_class(kind: Option<Kind>) -> bool {
-    matches!(kind, Some(Kind::Class))
+fn is_of_class(setting: &Setting<'_>, method: &MemberRow) -> bool
+    ensures yes { OnTrue result (IsOfClass setting.now method.now) }
+    ensures no { OnFalse result (IsOfClass setting.now method.now → ⊥) }
+{
+    is_constructor(method) && is_class(owner_kind(setting, method))
+}
+
+fn is_class(kind: Option<Kind>) -> bool
+    ensures yes { OnTrue result (kind ≡ Some Class) }
+    ensures no { OnFalse result (kind ≡ Some Class → ⊥) }
+{
+    match kind {
+        Some(kind) => matches!(kind, Kind::Class),
+        None => false,
+    }
 }
 
 fn calls_constructor(setting: &Setting<'_>, row: &Row) -> bool

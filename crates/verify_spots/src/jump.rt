@@ -1,9 +1,14 @@
 // Jumps that regions don't let through.
 
-ghost use Rattle.std.specs.Prelude.{◌≡◌, ℕ, Contains};
+ghost use Rattle.std.specs.Prelude.{◌≡◌, ◌⊎◌, ◌+◌, ℕ, true, None, slice_get, Contains};
 ghost use Rattle.std.specs.Bool.{OnTrue, OnFalse};
+ghost use Rattle.std.specs.Option.{option_copied};
+ghost use Rattle.cil_regions.specs.declared.region.RegionKind.TheVariants.{Code};
 ghost use Rattle.cil_regions.specs.Region.{AreNodes};
-ghost use Rattle.verify_bodies.specs.Spots.{HasRegion, Crosses, FallsOff, JumpsOff, JumpsWrongly, LeavesWrongly, EntersOwnTry};
+ghost use Rattle.cil_rows.specs.Flow.{goes_on};
+ghost use Rattle.verify_rules.specs.Kinds.{IsSo};
+ghost use Rattle.verify_spots.specs.Questions.{IsOwnTry, HasOwnTry};
+ghost use Rattle.verify_bodies.specs.Spots.{HasRegion, StandsIn, Crosses, FallsOff, JumpsOff, JumpsWrongly, LeavesWrongly, EntersHandler, EntersTryInside, EntersOwnTry};
 
 use crate::region::{Question, Regions, has_region, place};
 use cil_body::Clause;
@@ -17,16 +22,49 @@ pub fn falls_off(setting: &Setting<'_>, regions: &Regions<'_>, number: usize) ->
     ensures yes { OnTrue result (FallsOff setting.now regions.now.body.now number) }
     ensures no { OnFalse result (FallsOff setting.now regions.now.body.now number → ⊥) }
 {
-    match setting.rows.get(number) {
-        Some(row) => row.goes_on() && is_last_or_crosses(setting, regions, number),
+    row_falls_off(setting, regions, number, row_at(setting, number))
+}
+
+fn row_at<'a>(setting: &Setting<'a>, number: usize) -> Option<&'a Row>
+    ensures { option_copied result ≡ slice_get setting.now.rows.now number }
+{
+    setting.rows.get(number)
+}
+
+fn row_falls_off(
+    setting: &Setting<'_>,
+    regions: &Regions<'_>,
+    number: usize,
+    row: Option<&Row>,
+) -> bool
+    requires { AreNodes regions.now.body.now regions.now.nodes.now }
+    ensures yes { OnTrue result (IsSo (λ row. (goes_on row ≡ true) × ((slice_get setting.now.rows.now (number + 1) ≡ None) ⊎ HasRegion regions.now.body.now (Crosses regions.now.body.now number (number + 1)))) (option_copied row.entry)) }
+    ensures no { OnFalse result (IsSo (λ row. (goes_on row ≡ true) × ((slice_get setting.now.rows.now (number + 1) ≡ None) ⊎ HasRegion regions.now.body.now (Crosses regions.now.body.now number (number + 1)))) (option_copied row.entry) → ⊥) }
+{
+    match row {
+        Some(row) => row.goes_on() && ends_region(setting, regions, number),
         None => false,
     }
 }
 
-fn is_last_or_crosses(setting: &Setting<'_>, regions: &Regions<'_>, number: usize) -> bool {
-    match number.checked_add(1) {
-        Some(next) => next >= setting.rows.len()
-            || has_region(regions, Question::Crosses, number, next),
+// Whether no instruction of its region follows.
+fn ends_region(setting: &Setting<'_>, regions: &Regions<'_>, number: usize) -> bool
+    requires { AreNodes regions.now.body.now regions.now.nodes.now }
+    ensures yes { OnTrue result ((slice_get setting.now.rows.now (number + 1) ≡ None) ⊎ HasRegion regions.now.body.now (Crosses regions.now.body.now number (number + 1))) }
+    ensures no { OnFalse result ((slice_get setting.now.rows.now (number + 1) ≡ None) ⊎ HasRegion regions.now.body.now (Crosses regions.now.body.now number (number + 1)) → ⊥) }
+{
+    if number >= setting.rows.len() {
+        return true;
+    }
+    is_last(setting, number + 1) || has_region(regions, Question::Crosses, number, number + 1)
+}
+
+fn is_last(setting: &Setting<'_>, next: usize) -> bool
+    ensures yes { OnTrue result (slice_get setting.now.rows.now next ≡ None) }
+    ensures no { OnFalse result (slice_get setting.now.rows.now next ≡ None → ⊥) }
+{
+    match setting.rows.get(next) {
+        Some(_) => false,
         None => true,
     }
 }
@@ -40,7 +78,15 @@ pub fn jumps_off(setting: &Setting<'_>, regions: &Regions<'_>, number: usize) ->
     if number == 0 && has_region(regions, Question::BeginsHandler, number, number) {
         return true;
     }
-    match setting.rows.get(number) {
+    row_jumps_off(regions, number, row_at(setting, number))
+}
+
+fn row_jumps_off(regions: &Regions<'_>, number: usize, row: Option<&Row>) -> bool
+    requires { AreNodes regions.now.body.now regions.now.nodes.now }
+    ensures yes { OnTrue result (IsSo (JumpsWrongly regions.now.body.now number) (option_copied row.entry)) }
+    ensures no { OnFalse result (IsSo (JumpsWrongly regions.now.body.now number) (option_copied row.entry) → ⊥) }
+{
+    match row {
         Some(row) => jumps_wrongly(regions, number, row),
         None => false,
     }
@@ -64,30 +110,69 @@ fn leaves_wrongly(regions: &Regions<'_>, from: usize, to: usize) -> bool
     ensures yes { OnTrue result (LeavesWrongly regions.now.body.now from to) }
     ensures no { OnFalse result (LeavesWrongly regions.now.body.now from to → ⊥) }
 {
-    has_region(regions, Question::LeavesFinally, from, to)
-        || has_region(regions, Question::EntersHandler, from, to)
-        || has_region(regions, Question::EntersTryInside, from, to)
-        || enters_own_try(regions, from, to)
+    has_region(regions, Question::LeavesFinally, from, to) || enters_wrongly(regions, from, to)
+}
+
+fn enters_wrongly(regions: &Regions<'_>, from: usize, to: usize) -> bool
+    requires { AreNodes regions.now.body.now regions.now.nodes.now }
+    ensures yes { OnTrue result (EntersHandler regions.now.body.now from to ⊎ EntersTryInside regions.now.body.now from to ⊎ EntersOwnTry regions.now.body.now from to) }
+    ensures no { OnFalse result (EntersHandler regions.now.body.now from to ⊎ EntersTryInside regions.now.body.now from to ⊎ EntersOwnTry regions.now.body.now from to → ⊥) }
+{
+    has_region(regions, Question::EntersHandler, from, to) || enters_try(regions, from, to)
+}
+
+fn enters_try(regions: &Regions<'_>, from: usize, to: usize) -> bool
+    requires { AreNodes regions.now.body.now regions.now.nodes.now }
+    ensures yes { OnTrue result (EntersTryInside regions.now.body.now from to ⊎ EntersOwnTry regions.now.body.now from to) }
+    ensures no { OnFalse result (EntersTryInside regions.now.body.now from to ⊎ EntersOwnTry regions.now.body.now from to → ⊥) }
+{
+    has_region(regions, Question::EntersTryInside, from, to) || enters_own_try(regions, from, to)
 }
 
 fn enters_own_try(regions: &Regions<'_>, from: usize, to: usize) -> bool
     ensures yes { OnTrue result (EntersOwnTry regions.now.body.now from to) }
     ensures no { OnFalse result (EntersOwnTry regions.now.body.now from to → ⊥) }
 {
-    match (place(regions, from), place(regions, to)) {
-        (Some(from), Some(to)) => regions.body.clauses.items().iter().any(|clause| {
-            is_in_handler(clause, from) && is_in_try(clause, to)
-        }),
-        _ => false,
+    has_own_try(regions, regions.body.clauses.items(), from, to)
+}
+
+fn has_own_try(regions: &Regions<'_>, clauses: &[Clause], from: usize, to: usize) -> bool
+    ensures yes { OnTrue result (HasOwnTry regions.now.body.now clauses.now from to) }
+    ensures no { OnFalse result (HasOwnTry regions.now.body.now clauses.now from to → ⊥) }
+{
+    for number in 0..clauses.len() {
+        if is_own_try(regions, clauses, number, clauses[number], from, to) {
+            return true;
+        }
     }
+    false
 }
 
-fn is_in_handler(clause: &Clause, place: u32) -> bool {
-    clause.handler_at <= place && place - clause.handler_at < clause.handler_len
+// Whether the one instruction stands in the handler of a clause and the other in its try.
+fn is_own_try(
+    regions: &Regions<'_>,
+    clauses: &[Clause],
+    number: usize,
+    clause: Clause,
+    from: usize,
+    to: usize,
+) -> bool
+    ensures yes { OnTrue result (IsOwnTry regions.now.body.now clauses.now number clause from to) }
+    ensures no { OnFalse result (IsOwnTry regions.now.body.now clauses.now number clause from to → ⊥) }
+{
+    let _of = (clauses.len(), number);
+    stands_between(regions, clause.handler_at, clause.handler_len, from)
+        && stands_between(regions, clause.try_at, clause.try_len, to)
 }
 
-fn is_in_try(clause: &Clause, place: u32) -> bool {
-    clause.try_at <= place && place - clause.try_at < clause.try_len
+fn stands_between(regions: &Regions<'_>, start: u32, len: u32, number: usize) -> bool
+    ensures yes { OnTrue result (StandsIn regions.now.body.now (record { kind = Code; from = start; to = start + len; first = 0 }) number) }
+    ensures no { OnFalse result (StandsIn regions.now.body.now (record { kind = Code; from = start; to = start + len; first = 0 }) number → ⊥) }
+{
+    match place(regions, number) {
+        Some(place) => start <= place && place - start < len,
+        None => false,
+    }
 }
 
 fn ends_no_finally(regions: &Regions<'_>, number: usize) -> bool {
@@ -100,13 +185,11 @@ fn ends_no_finally(regions: &Regions<'_>, number: usize) -> bool {
 // The innermost region round an instruction: of those that hold it the last.
 fn innermost<'a>(regions: &Regions<'a>, number: usize) -> Option<&'a Region> {
     match place(regions, number) {
-        Some(place) => {
-            regions
-                .nodes
-                .iter()
-                .rev()
-                .find(|region| region.from <= place && place < region.to)
-        }
+        Some(place) => regions
+            .nodes
+            .iter()
+            .rev()
+            .find(|region| region.from <= place && place < region.to),
         None => None,
     }
 }
