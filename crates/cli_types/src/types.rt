@@ -54,7 +54,8 @@ impl Tokens {
         }
     }
 
-    fn own_type(&self, row: u32) -> Option<TypeId>
+    /// The type of a row of TypeDef.
+    pub fn own_type(&self, row: u32) -> Option<TypeId>
         ensures { result ≡ own_type self.now row }
     {
         if row < 2 || self.types <= self.own_from || self.types - self.own_from <= row - 2 {
