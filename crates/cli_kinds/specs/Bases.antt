@@ -1,5 +1,5 @@
 -- What a type extends (ECMA-335 II.22.37).
-use Rattle.std.specs.Prelude.{ℕ, ◌%◌, ◌^◌, ◌==◌, cond, Option, Some, None}
+use Rattle.std.specs.Prelude.{◌%◌, ◌^◌, ◌==◌, cond, Option, Some, None}
 use Rattle.dc_base.specs.declared.names.Token.{Token}
 use Rattle.dc_base.specs.declared.names.TypeId.{TypeId}
 use Rattle.cli_types.specs.declared.types.Tokens.{Tokens}

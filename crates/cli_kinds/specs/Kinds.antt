@@ -1,5 +1,5 @@
 -- What a type is (ECMA-335 II.10.1, II.12, II.13, II.14).
-use Rattle.std.specs.Prelude.{ℕ, Bool, true, false, ◌==◌, ◌&&◌, cond, Option, Some, None}
+use Rattle.std.specs.Prelude.{ℕ, Bool, false, ◌==◌, ◌&&◌, cond, Option, Some}
 use Rattle.dc_base.specs.declared.names.TypeId.{TypeId}
 use Rattle.dc_base.specs.declared.ty.Prim_.{Prim_}
 use Rattle.class_rows.specs.declared.row.Kind.{Kind}

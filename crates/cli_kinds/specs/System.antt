@@ -1,5 +1,5 @@
 -- The types that tell what a type is by being its base (ECMA-335 II.14.3, II.14.6, II.13).
-use Rattle.std.specs.Prelude.{◌≡◌, ℕ, List, codes, slice_get, Option, Some, None, false}
+use Rattle.std.specs.Prelude.{◌≡◌, ℕ, List, codes, Option, Some, None, false}
 use Rattle.dc_base.specs.declared.names.TypeId.{TypeId}
 use Rattle.dc_causes.specs.First.{IsLeast}
 use Rattle.class_rows.specs.declared.row.TypeRow.{TypeRow}

@@ -1,5 +1,5 @@
 -- The type of an enum's values (ECMA-335 II.14.3): that of its instance field.
-use Rattle.std.specs.Prelude.{◌≡◌, ◌⊎◌, ◌≤◌, ℕ, List, false, not, ◌==◌, ◌&&◌, cond, unwrap_or, Option, Some, None}
+use Rattle.std.specs.Prelude.{◌≡◌, ◌⊎◌, ◌≤◌, ℕ, List, false, not, ◌==◌, ◌&&◌, cond, unwrap_or, Option, None}
 use Rattle.dc_base.specs.declared.ty.Prim_.{Prim_}
 use Rattle.dc_base.specs.declared.ty.Prim_.TheVariants.{I4}
 use Rattle.dc_causes.specs.First.{IsLeast}

@@ -104,13 +104,15 @@ fn instance_fields_tell_values(rt: HostRuntime) -> Result<(), Fail> {
     let metadata = Metadata::of(&WHOLE)?;
     assert!(rt; rows_fit_tokens(&metadata));
     let lists = Lists::of(rt.alloc(), &metadata)?;
-    let rows = [
+    let rows: [(u32, Prim_); 4] = [
         (1, Prim_::I4),
         (2, Prim_::U1),
         (3, Prim_::I4),
         (4, Prim_::I4),
     ];
     for (n, prim) in rows {
+        assert!(rt; 1 <= n);
+        assert!(rt; n as usize <= lists.fields.cells.len());
         assert!(rt; underlying(&metadata, &lists.fields, n) == prim);
     }
     Ok(())

@@ -1,9 +1,8 @@
-use Rattle.std.proofs.Common.{◌≡◌, ◌<◌, ℕ, Some, inl, inr, sym, subst, arith}
+use Rattle.std.proofs.Common.{◌≡◌, ℕ, Some, inl, inr, subst, arith}
 use Rattle.std.specs.List.{slice_get}
 use Rattle.std.proofs.lemmas.Bool.{cases_lt}
 use Rattle.std.proofs.lemmas.Option.{slice_get_within}
 use Rattle.class_rows.specs.declared.row.TypeRow.{TypeRow}
-use Rattle.class_rows.specs.Types.{HasType}
 use Rattle.class_keys.proofs.Items.{read_item, one_item}
 use Rattle.cli_kinds.specs.System.{IsSystemRow}
 use Rattle.cli_kinds.proofs.system.system_type.Goals as goal

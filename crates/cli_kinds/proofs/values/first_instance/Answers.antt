@@ -1,6 +1,5 @@
-use Rattle.std.proofs.Common.{◌≡◌, ◌∙◌, ◌<◌, ◌≤◌, ℕ, Bool, true, false, not, inl, inr, refl, sym, ap, subst, arith}
+use Rattle.std.proofs.Common.{◌≡◌, ◌∙◌, ℕ, Bool, true, false, not, inl, inr, refl, sym, subst, arith}
 use Rattle.std.proofs.lemmas.Bool.{cases_lt}
-use Rattle.dc_causes.specs.First.{IsLeast}
 use Rattle.cli_metadata.specs.declared.tables.Table.TheVariants as tables
 use Rattle.cli_metadata.specs.Metadata.{Contents, rows_of}
 use Rattle.cli_lists.specs.declared.column.ListColumn.{ListColumn}
@@ -8,7 +7,7 @@ use Rattle.cli_lists.specs.Lists.{IsListColumn}
 use Rattle.cli_lists.specs.Starts.{IsInList}
 use Rattle.cli_flags.specs.Flags.{has}
 use Rattle.cli_flags.specs.declared.bits.MemberFlag.TheVariants as member_flag
-use Rattle.cli_kinds.specs.Underlying.{field_at, IsFieldRow, IsInstanceField}
+use Rattle.cli_kinds.specs.Underlying.{field_at, IsFieldRow}
 use Rattle.cli_kinds.proofs.values.first_instance.Goals as goal
 
 not_true : (b : Bool) → not b ≡ true → b ≡ false
