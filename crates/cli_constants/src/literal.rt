@@ -10,11 +10,7 @@ use std::alloc::Global;
 
 /// The value of a constant of this element type with these bytes; none where they are no value of it, or it is one that is
 /// left out.
-pub fn literal_of(
-    alloc: Global,
-    element: u32,
-    bytes: &[u8],
-) -> Result<Option<Literal>, NoMemory>
+pub fn literal_of(alloc: Global, element: u32, bytes: &[u8]) -> Result<Option<Literal>, NoMemory>
     ensures { IfOk result (λ value. value ≡ literal_of element bytes.now) }
 {
     match element {

@@ -49,10 +49,23 @@ pub fn members_meant(
     for step in walk.as_slice() {
         match *step {
             Step::Enter(t) => {
-                open(&mut progress, signs.as_slice(), run_of(owned.as_slice(), t.0));
-                answer(&mut progress, signs.as_slice(), run_of(asked.as_slice(), t.0), members.len());
+                open(
+                    &mut progress,
+                    signs.as_slice(),
+                    run_of(owned.as_slice(), t.0),
+                );
+                answer(
+                    &mut progress,
+                    signs.as_slice(),
+                    run_of(asked.as_slice(), t.0),
+                    members.len(),
+                );
             }
-            Step::Leave(t) => close(&mut progress, signs.as_slice(), run_of(owned.as_slice(), t.0)),
+            Step::Leave(t) => close(
+                &mut progress,
+                signs.as_slice(),
+                run_of(owned.as_slice(), t.0),
+            ),
         }
     }
     Ok(progress.found)
