@@ -1,5 +1,6 @@
 -- The values of constants (ECMA-335 II.22.9, II.23.1.16).
-use Rattle.std.specs.Prelude.{ℕ, zero, suc, ◌+◌, ◌*◌, ◌-◌, ◌^◌, ◌==◌, ◌%◌, List, [], ◌∷◌, length, nat_lt, Option, Some, None, cond, ℤ, pos, neg_ℤ}
+use Rattle.std.specs.Prelude.{ℕ, ◌+◌, ◌*◌, ◌-◌, ◌^◌, ◌==◌, List, [], ◌∷◌, length, nat_lt, Option, Some, None, cond, ℤ, pos, neg_ℤ}
+use Rattle.std.specs.Str.{bytes_eq}
 use Rattle.byteorder.specs.Endian.{little_number}
 use Rattle.class_rows.specs.declared.row.Literal.{Literal}
 use Rattle.class_rows.specs.declared.row.Literal.TheVariants.{Number, Text, NullText}
@@ -29,15 +30,15 @@ number_in element bytes =
     (cond (element == 0x0A) (signed bytes 8)
     (cond (element == 0x0B) (unsigned bytes 8) None)))))))))
 
+abbrev pub with_unit : ℕ → Option (List ℕ) → Option (List ℕ)
+with_unit unit None = None
+with_unit unit (Some units) = Some (unit ∷ units)
+
 -- units of two bytes, the low one first
 abbrev pub units_in : List ℕ → Option (List ℕ)
 units_in [] = Some []
 units_in (low ∷ []) = None
 units_in (low ∷ (high ∷ bytes)) = with_unit (low + 256 * high) (units_in bytes)
-where
-  with_unit : ℕ → Option (List ℕ) → Option (List ℕ)
-  with_unit unit None = None
-  with_unit unit (Some units) = Some (unit ∷ units)
 
 abbrev pub text_in : Option (List ℕ) → Option Literal
 text_in None = None
@@ -45,8 +46,7 @@ text_in (Some units) = Some (Text units)
 
 -- a null reference is four bytes of zero
 abbrev pub null_in : List ℕ → Option Literal
-null_in (0 ∷ (0 ∷ (0 ∷ (0 ∷ [])))) = Some NullText
-null_in _ = None
+null_in bytes = cond (bytes_eq bytes (0 ∷ 0 ∷ 0 ∷ 0 ∷ [])) (Some NullText) None
 
 abbrev pub number_literal : Option ℤ → Option Literal
 number_literal None = None

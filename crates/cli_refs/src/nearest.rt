@@ -33,7 +33,7 @@ pub fn members_meant(
 ) -> Result<Vec<Option<MemberId>>, NoMemory>
     requires few { length types.now < 2 ^ 32 }
     requires order { IsAboveFirst (IsAbove types.now) (length types.now) order.now }
-    ensures { IfOk result (AreMembersMeant types.now members.now sought.now) }
+    ensures { IfOk result (λ found. AreMembersMeant types.now members.now sought.now found.items) }
 {
     let params = param_types(alloc, members)?;
     let keys = keys_of(alloc, members, params.as_slice(), sought)?;
