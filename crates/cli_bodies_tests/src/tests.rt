@@ -239,13 +239,13 @@ fn catches_of_a_body(rt: HostRuntime) -> Result<(), Fail> {
 }
 
 #[test]
-fn what_follows_an_unbox(rt: HostRuntime) -> Result<(), Fail> {
+fn what_is_read_at_once_behind_an_unbox(rt: HostRuntime) -> Result<(), Fail> {
     let alloc = rt.alloc();
     let Some(table) = core_table(alloc)? else {
         return Ok(());
     };
     let tokens = tokens(alloc)?;
-    let rows: [(&[Line], Option<u32>, Option<Failure>); 8] = [
+    let rows: [(&[Line], Option<u32>, Option<Failure>); 2] = [
         (
             &[
                 (0, Op::Unbox, 5, None),
@@ -258,6 +258,36 @@ fn what_follows_an_unbox(rt: HostRuntime) -> Result<(), Fail> {
             None,
             None,
         ),
+        (
+            &[
+                (0, Op::Unbox, 5, None),
+                (5, Op::LdindI4, 0, None),
+                (6, Op::Brtrue, 0, Some(5)),
+            ],
+            None,
+            at(Condition::Unbox, 0),
+        ),
+    ];
+    for (lines, head, due) in rows {
+        check(
+            &rt,
+            alloc,
+            &table,
+            tokens.as_slice(),
+            (lines, &[], head, due),
+        )?;
+    }
+    Ok(())
+}
+
+#[test]
+fn what_reads_no_box(rt: HostRuntime) -> Result<(), Fail> {
+    let alloc = rt.alloc();
+    let Some(table) = core_table(alloc)? else {
+        return Ok(());
+    };
+    let tokens = tokens(alloc)?;
+    let rows: [(&[Line], Option<u32>, Option<Failure>); 4] = [
         (
             &[(0, Op::Nop, 0, None), (1, Op::Unbox, 5, None)],
             None,
@@ -278,15 +308,27 @@ fn what_follows_an_unbox(rt: HostRuntime) -> Result<(), Fail> {
             None,
             at(Condition::Unbox, 0),
         ),
-        (
-            &[
-                (0, Op::Unbox, 5, None),
-                (5, Op::LdindI4, 0, None),
-                (6, Op::Brtrue, 0, Some(5)),
-            ],
-            None,
-            at(Condition::Unbox, 0),
-        ),
+    ];
+    for (lines, head, due) in rows {
+        check(
+            &rt,
+            alloc,
+            &table,
+            tokens.as_slice(),
+            (lines, &[], head, due),
+        )?;
+    }
+    Ok(())
+}
+
+#[test]
+fn a_head_before_an_unbox(rt: HostRuntime) -> Result<(), Fail> {
+    let alloc = rt.alloc();
+    let Some(table) = core_table(alloc)? else {
+        return Ok(());
+    };
+    let tokens = tokens(alloc)?;
+    let rows: [(&[Line], Option<u32>, Option<Failure>); 2] = [
         (
             &[(3, Op::Unbox, 9, None), (8, Op::Ldobj, 9, None)],
             Some(3),
