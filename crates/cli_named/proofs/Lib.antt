@@ -1,0 +1,2 @@
+-- What a row names, and lists of it.
+pub mod Named
