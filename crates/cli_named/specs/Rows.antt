@@ -1,5 +1,5 @@
 -- What rows that are reached name further, each table at its own section of ECMA-335 II.22.
-use Rattle.std.specs.Prelude.{ℕ, ◌+◌, ◌*◌, ◌^◌, ◌≤◌, List, ◌++◌}
+use Rattle.std.specs.Prelude.{ℕ, ◌+◌, ◌*◌, ◌^◌, ◌<◌, ◌≤◌, List, ◌++◌}
 use Rattle.std.specs.Option.{option_to_list}
 use Rattle.dc_base.specs.declared.names.Token.{Token}
 use Rattle.cli_metadata.specs.declared.tables.Table.{Table}
@@ -14,10 +14,11 @@ use Rattle.cli_tables.specs.Types.{type_ref_of, type_spec_of}
 use Rattle.cli_signature.specs.declared.kind.Kind.TheVariants.{Field, Locals, Method}
 use Rattle.cli_sig_tokens.specs.Tokens.{AreTokens, AreSpecTokens}
 
--- a table has a row of this number
+-- a table has a row of this number, and a token can name it: the row has three bytes of a token
 pub record IsRow (m : Contents) (table : Table) (r : ℕ) : Type 0 where
   pub low : 1 ≤ r
   pub high : r ≤ rows_of m table
+  pub fits : r < 2 ^ 24
 
 -- the token of row r of the table of this number
 abbrev pub token_at : ℕ → ℕ → Token

@@ -1,6 +1,6 @@
 // What one row names.
 
-ghost use Rattle.std.specs.Prelude.{◌≡◌, ◌≤◌, ◌<◌, IfOk};
+ghost use Rattle.std.specs.Prelude.{◌≡◌, ◌≤◌, ◌<◌, ◌^◌, IfOk};
 ghost use Rattle.std.specs.Option.{option_to_list};
 ghost use Rattle.cli_metadata.specs.declared.tables.Table.TheVariants as tables;
 ghost use Rattle.cli_metadata.specs.Metadata.{rows_of};
@@ -42,6 +42,7 @@ pub(crate) fn named_by(
 fn by_type_ref(alloc: Global, metadata: &Metadata, r: u32) -> Result<Vec<Token>, NoMemory>
     requires low { 1 ≤ r }
     requires high { r ≤ rows_of metadata.now tables.TypeRef }
+    requires fits { r < 2 ^ 24 }
     ensures { IfOk result (λ tokens. AreNamed metadata.now (token_at 0x01 r) tokens.items) }
 {
     let row: TypeRefRow = metadata.row(r);
@@ -51,6 +52,7 @@ fn by_type_ref(alloc: Global, metadata: &Metadata, r: u32) -> Result<Vec<Token>,
 fn by_type_spec(alloc: Global, metadata: &Metadata, r: u32) -> Result<Vec<Token>, NoMemory>
     requires low { 1 ≤ r }
     requires high { r ≤ rows_of metadata.now tables.TypeSpec }
+    requires fits { r < 2 ^ 24 }
     ensures { IfOk result (λ tokens. AreNamed metadata.now (token_at 0x1B r) tokens.items) }
 {
     let row: TypeSpecRow = metadata.row(r);
@@ -60,6 +62,7 @@ fn by_type_spec(alloc: Global, metadata: &Metadata, r: u32) -> Result<Vec<Token>
 fn by_member_ref(alloc: Global, metadata: &Metadata, r: u32) -> Result<Vec<Token>, NoMemory>
     requires low { 1 ≤ r }
     requires high { r ≤ rows_of metadata.now tables.MemberRef }
+    requires fits { r < 2 ^ 24 }
     ensures { IfOk result (λ tokens. AreNamed metadata.now (token_at 0x0A r) tokens.items) }
 {
     let row: MemberRefRow = metadata.row(r);
@@ -74,6 +77,7 @@ fn by_member_ref(alloc: Global, metadata: &Metadata, r: u32) -> Result<Vec<Token
 fn by_sig(alloc: Global, metadata: &Metadata, r: u32) -> Result<Vec<Token>, NoMemory>
     requires low { 1 ≤ r }
     requires high { r ≤ rows_of metadata.now tables.StandAloneSig }
+    requires fits { r < 2 ^ 24 }
     ensures { IfOk result (λ tokens. AreNamed metadata.now (token_at 0x11 r) tokens.items) }
 {
     let row: StandAloneSigRow = metadata.row(r);

@@ -62,3 +62,9 @@ lent_is_none one blob ty is lent other at =
 
 pub fault_is_none : HasNoFault → (blob : List ℕ) (fault : SigFault) → IsSigFault (IsBlob Field) (0x06 ∷ blob) fault → (other : RawTy) → IsSpec blob other → ⊥
 fault_is_none none blob fault at other is = none Field (0x06 ∷ blob) fault (field_of is.way, derived blob is.way is.fits is.is) at
+
+-- a blob is one type by itself
+pub one_spec : HasOneDerivation → (blob : List ℕ) (ty other : RawTy) → IsSpec blob ty → IsSpec blob other → ty ≡ other
+one_spec one blob ty other is by =
+    let same : field_of is.way ≡ field_of by.way = one Field (0x06 ∷ blob) (field_of is.way) (field_of by.way) (derived blob is.way is.fits is.is) (derived blob by.way by.fits by.is) in
+    is.read ∙ (head_is _ _ (ap raws same) ∙ sym by.read)

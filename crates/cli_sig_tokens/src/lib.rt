@@ -5,10 +5,12 @@
 //! ```
 #![tactic(auto)]
 
+mod laws;
 mod spec;
 #[cfg(test)]
 mod tests;
 mod tokens;
 
+pub use laws::one_list;
 pub use spec::type_spec;
 pub use tokens::{field_tokens, local_tokens, method_tokens, property_tokens, spec_tokens};

@@ -6,4 +6,4 @@ use Rattle.cli_named.proofs.Named.{of_type_spec}
 use Rattle.cli_named.proofs.rows.by_type_spec.Goals as goal
 
 pub returns : goal.returns
-returns c = IfOk-weaker _ _ _ (λ (found : Vec Token Global) are. of_type_spec c.args.metadata.now c.args.r c.row-row.result found.items c.requires.low c.requires.high c.row-row.ensures are) c.spec_tokens.ensures
+returns c = IfOk-weaker _ _ _ (λ (found : Vec Token Global) are. of_type_spec c.args.metadata.now c.args.r c.row-row.result found.items c.requires.low c.requires.high c.requires.fits c.row-row.ensures are) c.spec_tokens.ensures
