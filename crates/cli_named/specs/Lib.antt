@@ -2,3 +2,4 @@
 pub mod Rows
 pub mod Numbers
 pub mod Lists
+pub mod Laws

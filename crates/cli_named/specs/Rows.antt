@@ -1,5 +1,5 @@
 -- What rows that are reached name further, each table at its own section of ECMA-335 II.22.
-use Rattle.std.specs.Prelude.{ℕ, ◌+◌, ◌*◌, ◌^◌, ◌<◌, ◌≤◌, List, ◌++◌}
+use Rattle.std.specs.Prelude.{◌≡◌, ℕ, ◌+◌, ◌*◌, ◌/◌, ◌%◌, ◌^◌, ◌≤◌, List, ◌++◌}
 use Rattle.std.specs.Option.{option_to_list}
 use Rattle.dc_base.specs.declared.names.Token.{Token}
 use Rattle.cli_metadata.specs.declared.tables.Table.{Table}
@@ -14,11 +14,17 @@ use Rattle.cli_tables.specs.Types.{type_ref_of, type_spec_of}
 use Rattle.cli_signature.specs.declared.kind.Kind.TheVariants.{Field, Locals, Method}
 use Rattle.cli_sig_tokens.specs.Tokens.{AreTokens, AreSpecTokens}
 
--- a table has a row of this number, and a token can name it: the row has three bytes of a token
+-- a table has a row of this number
 pub record IsRow (m : Contents) (table : Table) (r : ℕ) : Type 0 where
   pub low : 1 ≤ r
   pub high : r ≤ rows_of m table
-  pub fits : r < 2 ^ 24
+
+-- the number of a token's table is in its top byte, that of its row in the three others (III.1.9)
+abbrev pub table_in : Token → ℕ
+table_in token = token.0 / 2 ^ 24
+
+abbrev pub row_in : Token → ℕ
+row_in token = token.0 % 2 ^ 24
 
 -- the token of row r of the table of this number
 abbrev pub token_at : ℕ → ℕ → Token
@@ -46,8 +52,9 @@ class_of row = option_to_list (coded_of row.class.kind row.class.cell)
 
 -- What the row of a token names: a row of TypeRef what it stands in, a row of TypeSpec its type, a row of MemberRef the type and
 -- what its signature says, which is that of a field or of a method, and a row of StandAloneSig what the signature of locals says.
-pub data AreNamed (m : Contents) : Token → List Token → Type 0 where
-  by_type_ref : (r : ℕ) → IsRow m tables.TypeRef r → AreNamed m (token_at 0x01 r) (scope_of (type_ref_at m r))
-  by_type_spec : (r : ℕ) (tokens : List Token) → IsRow m tables.TypeSpec r → AreSpecTokens m (type_spec_at m r).signature tokens → AreNamed m (token_at 0x1B r) tokens
-  by_member_ref : (r : ℕ) (field method : List Token) → IsRow m tables.MemberRef r → AreTokens m Field (member_ref_at m r).signature field → AreTokens m Method (member_ref_at m r).signature method → AreNamed m (token_at 0x0A r) (class_of (member_ref_at m r) ++ (field ++ method))
-  by_sig : (r : ℕ) (tokens : List Token) → IsRow m tables.StandAloneSig r → AreTokens m Locals (sig_at m r).signature tokens → AreNamed m (token_at 0x11 r) tokens
+pub data AreNamed (m : Contents) (token : Token) (tokens : List Token) : Type 0 where
+  by_type_ref : table_in token ≡ 0x01 → IsRow m tables.TypeRef (row_in token) → tokens ≡ scope_of (type_ref_at m (row_in token)) → AreNamed m token tokens
+  by_type_spec : table_in token ≡ 0x1B → IsRow m tables.TypeSpec (row_in token) → AreSpecTokens m (type_spec_at m (row_in token)).signature tokens → AreNamed m token tokens
+  by_member_ref : (field method : List Token) → table_in token ≡ 0x0A → IsRow m tables.MemberRef (row_in token) → AreTokens m Field (member_ref_at m (row_in token)).signature field
+      → AreTokens m Method (member_ref_at m (row_in token)).signature method → tokens ≡ class_of (member_ref_at m (row_in token)) ++ (field ++ method) → AreNamed m token tokens
+  by_sig : table_in token ≡ 0x11 → IsRow m tables.StandAloneSig (row_in token) → AreTokens m Locals (sig_at m (row_in token)).signature tokens → AreNamed m token tokens

@@ -7,11 +7,13 @@
 //! ```
 #![tactic(auto)]
 
+mod laws;
 mod lists;
 mod numbers;
 mod rows;
 #[cfg(test)]
 mod tests;
 
+pub use laws::names_are_one;
 pub use lists::named_rows;
 pub use numbers::Numbers;
