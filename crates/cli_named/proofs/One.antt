@@ -10,8 +10,8 @@ use Rattle.cli_sig_tokens.specs.Laws.{TokensAreOne, SpecTokensAreOne}
 use Rattle.cli_named.specs.declared.numbers.Numbers.{Numbers}
 use Rattle.cli_named.specs.Rows.{IsRow, table_in, row_in, token_at, type_ref_at, type_spec_at, member_ref_at, sig_at, scope_of, class_of, AreNamed, by_type_ref, by_type_spec, by_member_ref, by_sig}
 use Rattle.cli_named.specs.Numbers.{nameable, numbers_of, numbered, number_of, token_of, specs_from, members_from, sigs_from}
-use Rattle.cli_named.specs.Laws.{NamesAreOne, NamesHaveNumbers, NumbersAreOnes}
-use Rattle.cli_named.proofs.Places.{token_back, in_table_refs, in_table_specs, in_table_members, in_table_sigs}
+use Rattle.cli_named.specs.Laws.{NamesAreOne, NamesHaveNumbers, NumbersAreOnes, NumbersAreBelow}
+use Rattle.cli_named.proofs.Places.{token_back, number_below, in_table_refs, in_table_specs, in_table_members, in_table_sigs}
 
 other_table : (n a b : ℕ) → n ≡ a → n ≡ b → a ≢ b → ⊥
 other_table n a b is by apart = apart (sym is ∙ by)
@@ -48,3 +48,6 @@ names_have_numbers m t tokens (by_sig n r is) = (_, in_table_sigs (numbers_of m)
 
 pub numbers_are_ones : NumbersAreOnes
 numbers_are_ones m t k is = token_back (numbers_of m) t k is
+
+pub numbers_are_below : NumbersAreBelow
+numbers_are_below m t k is = number_below (numbers_of m) t k is

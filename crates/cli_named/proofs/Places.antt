@@ -4,7 +4,7 @@ use Rattle.std.specs.Prelude.{cond, min, nat_lt, nat_le, ◌==◌, ◌&&◌}
 use Rattle.dc_base.specs.declared.names.Token.{Token}
 use Rattle.cli_named.specs.declared.numbers.Numbers.{Numbers}
 use Rattle.cli_named.specs.Rows.{table_in, row_in, token_at}
-use Rattle.cli_named.specs.Numbers.{numbered, number_of, token_of, specs_from, members_from, sigs_from}
+use Rattle.cli_named.specs.Numbers.{count_of, numbered, number_of, token_of, specs_from, members_from, sigs_from}
 
 four : (b c d e : Bool) (x y z w : Option ℕ) (k : ℕ) → cond b x (cond c y (cond d z (cond e w None))) ≡ Some k
     → ((b ≡ true) × (x ≡ Some k)) ⊎ ((c ≡ true) × (y ≡ Some k)) ⊎ ((d ≡ true) × (z ≡ Some k)) ⊎ ((e ≡ true) × (w ≡ Some k))
@@ -77,3 +77,11 @@ in_table_members n t is low high = grind (arith, rules)
 
 pub in_table_sigs : (n : Numbers) (t : Token) → table_in t ≡ 0x11 → 1 ≤ row_in t → row_in t ≤ n.sigs → number_of n t ≡ Some (sigs_from n + (row_in t - 1))
 in_table_sigs n t is low high = grind (arith, rules)
+
+pub number_below : (n : Numbers) (t : Token) (k : ℕ) → number_of n t ≡ Some k → k < count_of n
+number_below n t k is = elim (four (table_in t == 0x01) (table_in t == 0x1B) (table_in t == 0x0A) (table_in t == 0x11) _ _ _ _ k is) [
+  | inl p ↦ let at = is_in 0 n.type_refs (row_in t) k p.1 in omega (arith, at.0, at.1, at.2)
+  | inr (inl p) ↦ let at = is_in (specs_from n) n.type_specs (row_in t) k p.1 in omega (arith, at.0, at.1, at.2)
+  | inr (inr (inl p)) ↦ let at = is_in (members_from n) n.member_refs (row_in t) k p.1 in omega (arith, at.0, at.1, at.2)
+  | inr (inr (inr p)) ↦ let at = is_in (sigs_from n) n.sigs (row_in t) k p.1 in omega (arith, at.0, at.1, at.2)
+]

@@ -1,9 +1,9 @@
 -- What follows from the definitions.
-use Rattle.std.specs.Prelude.{◌≡◌, ℕ, List, Some}
+use Rattle.std.specs.Prelude.{◌≡◌, ℕ, ◌<◌, List, Some}
 use Rattle.dc_base.specs.declared.names.Token.{Token}
 use Rattle.cli_metadata.specs.Metadata.{Contents}
 use Rattle.cli_named.specs.Rows.{AreNamed}
-use Rattle.cli_named.specs.Numbers.{numbers_of, number_of, token_of}
+use Rattle.cli_named.specs.Numbers.{numbers_of, count_of, number_of, token_of}
 
 -- the row of a token names one list of tokens
 abbrev pub NamesAreOne : Type 0
@@ -16,3 +16,7 @@ NamesHaveNumbers = (m : Contents) (token : Token) (tokens : List Token) → AreN
 -- the token of the number of a token is that token
 abbrev pub NumbersAreOnes : Type 0
 NumbersAreOnes = (m : Contents) (token : Token) (k : ℕ) → number_of (numbers_of m) token ≡ Some k → token_of (numbers_of m) k ≡ token
+
+-- numbers are below the count of rows that have one
+abbrev pub NumbersAreBelow : Type 0
+NumbersAreBelow = (m : Contents) (token : Token) (k : ℕ) → number_of (numbers_of m) token ≡ Some k → k < count_of (numbers_of m)

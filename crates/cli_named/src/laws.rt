@@ -1,6 +1,6 @@
 // What follows from the definitions.
 
-ghost use Rattle.cli_named.specs.Laws.{NamesAreOne, NamesHaveNumbers, NumbersAreOnes};
+ghost use Rattle.cli_named.specs.Laws.{NamesAreOne, NamesHaveNumbers, NumbersAreOnes, NumbersAreBelow};
 
 use cli_sig_tokens::one_list;
 
@@ -9,6 +9,7 @@ pub fn names_are_one()
     ensures one { NamesAreOne }
     ensures numbered { NamesHaveNumbers }
     ensures told { NumbersAreOnes }
+    ensures below { NumbersAreBelow }
 {
     one_list();
 }

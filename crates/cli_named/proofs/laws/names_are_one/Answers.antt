@@ -1,4 +1,4 @@
-use Rattle.cli_named.proofs.One.{names_are_one, names_have_numbers, numbers_are_ones}
+use Rattle.cli_named.proofs.One.{names_are_one, names_have_numbers, numbers_are_ones, numbers_are_below}
 use Rattle.cli_named.proofs.laws.names_are_one.Goals as goal
 
 pub returns-clause-one : goal.returns-clause-one
@@ -9,3 +9,6 @@ returns-clause-numbered c = names_have_numbers
 
 pub returns-clause-told : goal.returns-clause-told
 returns-clause-told c = numbers_are_ones
+
+pub returns-clause-below : goal.returns-clause-below
+returns-clause-below c = numbers_are_below
