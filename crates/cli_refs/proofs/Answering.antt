@@ -1,7 +1,7 @@
 -- The references that name a type are told one by one.
-use Rattle.std.proofs.Common.{◌≡◌, ◌<◌, ◌≤◌, ℕ, suc, true, false, eqb, Option, Some, None, List, length, set, inl, inr, refl, sym, ap, subst, ◌∙◌, arith}
+use Rattle.std.proofs.Common.{◌≡◌, ◌<◌, ◌≤◌, ℕ, suc, Option, Some, None, List, length, set, inl, inr, refl, sym, subst, ◌∙◌, arith}
 use Rattle.std.proofs.Math.ListN.{length-set}
-use Rattle.std.proofs.lemmas.Bool.{cases_lt, eqb-true, eqb-false}
+use Rattle.std.proofs.lemmas.Bool.{cases_lt}
 use Rattle.std.proofs.lemmas.Option.{slice_get_within}
 use Rattle.std.specs.List.{slice_get}
 use Rattle.dc_base.specs.declared.names.MemberId.{MemberId}

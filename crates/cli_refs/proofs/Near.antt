@@ -1,23 +1,19 @@
 -- The innermost open member of a sign is the one that is meant.
-use Rattle.std.proofs.Common.{◌≡◌, ◌⊎◌, ℕ, ◌+◌, ◌<◌, ◌≤◌, true, Option, Some, None, List, [], ◌∷◌, ◌++◌, length, inl, inr, sym, refl, ap, subst, ◌∙◌, arith}
+use Rattle.std.proofs.Common.{◌≡◌, ℕ, ◌+◌, ◌<◌, Option, Some, None, List, [], ◌∷◌, length, inl, inr, sym, ap, subst, ◌∙◌, arith}
 use Rattle.std.proofs.lemmas.Option.{slice_get_within}
 use Rattle.std.specs.List.{slice_get}
-use Rattle.dc_base.specs.declared.names.TypeId.{TypeId}
-use Rattle.dc_base.specs.declared.names.MemberId.{MemberId}
-use Rattle.dc_causes.specs.First.{IsLeast}
 use Rattle.class_chains.specs.Ends.{here, further}
 use Rattle.class_keys.proofs.Items.{one_item, item_at}
 use Rattle.class_rows.specs.declared.row.TypeRow.{TypeRow}
 use Rattle.class_rows.specs.declared.row.MemberRow.{MemberRow}
-use Rattle.class_rows.specs.Types.{IsBase, InBaseChain}
-use Rattle.class_rows.specs.Members.{IsOf}
+use Rattle.class_rows.specs.Types.{InBaseChain}
 use Rattle.class_open.specs.declared.open.Open.{Open}
 use Rattle.class_open.specs.Trail.{Has, IsPath, IsPicked, IsTrail, FirstIn}
 use Rattle.class_open.specs.Stacks.{Leads}
 use Rattle.class_open.proofs.Path.{chain_path, trail_has, first_cases}
 use Rattle.cli_refs.specs.declared.key.Sought.{Sought}
 use Rattle.cli_refs.specs.declared.walked.Known.{Known}
-use Rattle.cli_refs.specs.Sought.{IsSought, IsSoughtIn, IsNearest, in_it, above, IsMemberMeant}
+use Rattle.cli_refs.specs.Sought.{IsSoughtIn, IsNearest, in_it, above}
 use Rattle.cli_refs.specs.Picks.{IsSignedIn}
 use Rattle.cli_refs.specs.Asked.{Asks}
 use Rattle.cli_refs.specs.Known.{IsKnown, IsOpenFrom}

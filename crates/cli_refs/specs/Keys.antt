@@ -1,5 +1,5 @@
 -- Inner facts: the keys of the members, and behind them those of the references.
-use Rattle.std.specs.Prelude.{◌≡◌, ℕ, ◌+◌, ◌<◌, List, Some, length, slice_get}
+use Rattle.std.specs.Prelude.{◌≡◌, ℕ, ◌+◌, List, Some, length, slice_get}
 use Rattle.class_rows.specs.declared.row.MemberRow.{MemberRow}
 use Rattle.class_rows.specs.Members.{types_of}
 use Rattle.cli_refs.specs.declared.key.Sought.{Sought}

@@ -15,11 +15,7 @@ pub struct Asked {
 }
 
 /// The references that name one of so many types.
-pub fn asked_of(
-    alloc: Global,
-    count: usize,
-    sought: &[Sought<'_>],
-) -> Result<Asked, NoMemory>
+pub fn asked_of(alloc: Global, count: usize, sought: &[Sought<'_>]) -> Result<Asked, NoMemory>
     ensures { IfOk result (λ asked. AreAsked sought.now count (length sought.now) asked.last.items asked.before.items) }
 {
     let mut asked = Asked {

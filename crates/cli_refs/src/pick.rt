@@ -31,11 +31,7 @@ pub fn picks_of(
     picked(alloc, count, members, firsts.as_slice())
 }
 
-fn places_of(
-    alloc: Global,
-    members: &[MemberRow],
-    signs: &[usize],
-) -> Result<Vec<Place>, NoMemory>
+fn places_of(alloc: Global, members: &[MemberRow], signs: &[usize]) -> Result<Vec<Place>, NoMemory>
     requires { length members.now ≤ length signs.now }
     ensures { IfOk result (λ places. ArePlaces members.now signs.now (length members.now) places.items) }
 {

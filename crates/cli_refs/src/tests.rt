@@ -69,14 +69,18 @@ fn field() -> MemberKind {
     }
 }
 
-#[test]
-fn nearest_members_are_meant(rt: HostRuntime) -> Result<(), Fail> {
-    let alloc = rt.alloc();
+// B derives from A, and C from B; D derives from A, and E from a type that isn't there.
+fn types_of(alloc: Global) -> Result<Vec<TypeRow>, Fail> {
     let mut types = Vec::new(alloc);
     types.push(class(alloc, "C", Some(TypeId(1)))?)?;
     types.push(class(alloc, "B", Some(TypeId(2)))?)?;
     types.push(class(alloc, "A", None)?)?;
     types.push(class(alloc, "D", Some(TypeId(2)))?)?;
+    types.push(class(alloc, "E", Some(TypeId(9)))?)?;
+    Ok(types)
+}
+
+fn members_of(alloc: Global) -> Result<Vec<MemberRow>, Fail> {
     let mut members = Vec::new(alloc);
     members.push(member(alloc, 2, "M", MemberKind::Method, false, &[INT], VOID)?)?;
     members.push(member(alloc, 1, "M", MemberKind::Method, false, &[], VOID)?)?;
@@ -84,7 +88,27 @@ fn nearest_members_are_meant(rt: HostRuntime) -> Result<(), Fail> {
     members.push(member(alloc, 1, "f", field(), true, &[], INT)?)?;
     members.push(member(alloc, 2, "S", MemberKind::Getter, true, &[], INT)?)?;
     members.push(member(alloc, 1, "M", MemberKind::Setter, false, &[], VOID)?)?;
-    let rows: [(u32, &[u8], Shape, &[Ty], Ty, Option<u32>); 11] = [
+    members.push(member(alloc, 9, "M", MemberKind::Method, false, &[], VOID)?)?;
+    Ok(members)
+}
+
+fn found_for(
+    alloc: Global,
+    types: &[TypeRow],
+    members: &[MemberRow],
+    sought: &[Sought<'_>],
+) -> Result<Vec<Option<MemberId>>, Fail> {
+    if types.len() > 99 || members.len() > 99 {
+        return Ok(Vec::new(alloc));
+    }
+    let orders = orders_of(alloc, types)?;
+    Ok(members_meant(alloc, types, members, orders.bases.items(), sought)?)
+}
+
+#[test]
+fn nearest_members_are_meant(rt: HostRuntime) -> Result<(), Fail> {
+    let alloc = rt.alloc();
+    let rows: [(u32, &[u8], Shape, &[Ty], Ty, Option<u32>); 13] = [
         (0, b"M", Shape::Instance, &[INT], VOID, Some(0)),
         (0, b"M", Shape::Instance, &[], VOID, Some(1)),
         (1, b"M", Shape::Instance, &[], VOID, Some(1)),
@@ -95,7 +119,9 @@ fn nearest_members_are_meant(rt: HostRuntime) -> Result<(), Fail> {
         (3, b"S", Shape::Static, &[], INT, Some(4)),
         (3, b"S", Shape::Instance, &[], INT, None),
         (0, b"M", Shape::Instance, &[INT], INT, None),
+        (4, b"M", Shape::Instance, &[], VOID, None),
         (9, b"M", Shape::Instance, &[], VOID, None),
+        (1, b"N", Shape::Instance, &[], VOID, None),
     ];
     let mut sought = Vec::new(alloc);
     for (parent, name, shape, params, gives, _) in rows {
@@ -107,16 +133,17 @@ fn nearest_members_are_meant(rt: HostRuntime) -> Result<(), Fail> {
             result: gives,
         })?;
     }
-    let orders = orders_of(alloc, types.as_slice())?;
-    let found = members_meant(
+    let types = types_of(alloc)?;
+    let members = members_of(alloc)?;
+    let found = found_for(
         alloc,
         types.as_slice(),
         members.as_slice(),
-        orders.bases.items(),
         sought.as_slice(),
     )?;
-    for k in 0..rows.len() {
-        assert_eq!(rt; found[k].map(|m| m.0), rows[k].5);
+    assert_eq!(rt; found.len(), rows.len());
+    for (meant, row) in found.iter().zip(rows.iter()) {
+        assert_eq!(rt; meant.map(|m| m.0), row.5);
     }
     Ok(())
 }

@@ -39,6 +39,7 @@ pub struct Progress {
     pub found: Vec<Option<MemberId>>,
 }
 
+/// The walk goes one step on: from an open path to the next, whatever the two are.
 pub fn stepped(known: &Known, progress: Progress, step: Step) -> Result<Progress, NoMemory>
     requires known { IsKnown known.now }
     requires at { (path : List ℕ) × (rest : List WalkStep) × IsAt known.now path progress × IsWalk known.now.types.now path (step ∷ rest) }

@@ -1,4 +1,4 @@
-use Rattle.std.proofs.Common.{subst, arith}
+use Rattle.std.proofs.Common.{subst}
 use Rattle.std.proofs.lemmas.Option.{get_or_from_slice_get}
 use Rattle.class_keys.proofs.Items.{item_at}
 use Rattle.cli_refs.specs.declared.key.Sought.{Sought}

@@ -1,6 +1,5 @@
 use Rattle.std.proofs.Common.{List, ℕ, Bool, Vec, Global, length, sym, subst}
 use Rattle.std.proofs.lemmas.Result.{IfOk-weaker}
-use Rattle.class_keys.specs.Firsts.{AreFirsts}
 use Rattle.cli_refs.specs.declared.pick.Place.{Place}
 use Rattle.cli_refs.specs.Picks.{ArePlaces, ArePicked}
 use Rattle.cli_refs.proofs.FirstOf.{place_tells, are_picks}

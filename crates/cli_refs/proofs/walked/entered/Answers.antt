@@ -12,7 +12,7 @@ pub answered-found-requires-clause-open_ : goal.answered-found-requires-clause-o
 answered-found-requires-clause-open_ c = (
   c.requires.at.0,
   open_entered c.args.known.now c.requires.known c.args.progress.stacks c.in_ok-stacks.stacks c.requires.at.0 c.of_owner-own.result.now c.args.t.0 c.requires.at.1.stacks c.requires.at.2
-  c.of_owner-own.ensures.exact c.in_ok-stacks.ensures.stacked c.in_ok-stacks.ensures.more,
+      c.of_owner-own.ensures.exact c.in_ok-stacks.ensures.stacked c.in_ok-stacks.ensures.more,
 )
 
 pub returns-clause-at : goal.returns-clause-at

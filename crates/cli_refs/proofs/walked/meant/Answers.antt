@@ -1,4 +1,3 @@
-use Rattle.std.proofs.Common.{subst, sym}
 use Rattle.std.proofs.lemmas.Option.{slice_get_within}
 use Rattle.cli_refs.proofs.Near.{sign_at, top_meant, none_meant}
 use Rattle.cli_refs.proofs.walked.meant.Goals as goal
