@@ -1,5 +1,5 @@
--- The first member of each sign in each type.
-use Rattle.std.proofs.Common.{◌≡◌, ℕ, ◌+◌, ◌<◌, ◌≤◌, Bool, true, Some, None, List, [], ◌∷◌, ◌++◌, length, sym, ◌∙◌, ap, subst, inl, inr, arith}
+-- The first member of each sign in each type that is there.
+use Rattle.std.proofs.Common.{◌≡◌, ℕ, ◌+◌, ◌<◌, ◌≤◌, Bool, true, Some, None, List, [], ◌∷◌, ◌++◌, length, refl, sym, ◌∙◌, ap, subst, inl, inr, arith}
 use Rattle.std.specs.Bool.{Decides}
 use Rattle.std.specs.List.{slice_get}
 use Rattle.std.proofs.lemmas.Bool.{cases_lt}
@@ -7,10 +7,11 @@ use Rattle.std.proofs.lemmas.Bool.Decides.{Decides-eqb, Decides-and, Decides-lik
 use Rattle.std.proofs.lemmas.List.{length-append}
 use Rattle.std.proofs.lemmas.Option.{slice_get_within}
 use Rattle.dc_base.specs.declared.names.TypeId.{TypeId}
+use Rattle.dc_causes.specs.First.{IsLeast}
 use Rattle.class_keys.specs.Firsts.{IsAlsoAt, AreFirsts}
 use Rattle.class_keys.proofs.Items.{one_item, item_at, item_kept, last_item, pushed_item}
 use Rattle.class_rows.specs.declared.row.MemberRow.{MemberRow}
-use Rattle.class_rows.specs.Members.{IsOf}
+use Rattle.class_rows.specs.Members.{HasMember, IsOf}
 use Rattle.cli_refs.specs.declared.pick.Place.{Place}
 use Rattle.cli_refs.specs.contracts.pick.PlacePartialEq.TheImpl as place_impl
 use Rattle.cli_refs.specs.Picks.{IsPlace, ArePlaces, IsPickedAt, ArePicked, IsSignedIn, ArePicks}
@@ -122,35 +123,40 @@ module _ (eq : Place → Place → Bool) (tells : Tells eq) (types : ℕ) (membe
         r.1 ∙ ap Some (sym is.sign ∙ sign),
       )
 
+  one_place : (m f : ℕ) (p : Place) → slice_get places m ≡ Some p → IsAlsoAt eq places m f → (b : Place) × (slice_get places f ≡ Some b) × AreOnePlace p b
+  one_place m f p stands at =
+      let e : at.key ≡ p = one_item places m at.key p at.stands stands in
+      (at.twin, at.other_stands, subst (λ (k : Place). AreOnePlace k at.twin) e ((tells at.key at.twin).0 at.equal))
+
+  -- the first index of a place is that of its own place
+  first_again : (m f g : ℕ) (p : Place) → slice_get places m ≡ Some p → IsLeast (IsAlsoAt eq places m) f → IsLeast (IsAlsoAt eq places f) g → g ≡ f
+  first_again m f g p stands least again =
+      let b = one_place m f p stands least.holds in
+      let c = one_place f g b.0 b.1 again.holds in
+      let back : f ≤ g = elim (cases_lt g f) [
+        | inr le ↦ le
+        | inl less ↦ absurd (least.least g less (record { key = p; stands = stands; twin = c.0; other_stands = c.1; equal = (tells p c.0).1 (place_through p b.0 c.0 b.2 c.2) }))
+      ] in
+      let self : g ≤ f = elim (cases_lt f g) [
+        | inr le ↦ le
+        | inl less ↦ absurd (again.least f less (record { key = b.0; stands = b.1; twin = b.0; other_stands = b.1; equal = (tells b.0 b.0).1 (record { owner = refl; sign = refl }) }))
+      ] in
+      omega (arith, back, self)
+
+  owner_within : (t m : ℕ) → IsOf members t m → t < types → HasMember members m (λ row. row.owner.0 < types)
+  owner_within t m of_ lt = record { row = of_.row; stands = of_.stands; is = subst (λ (o : TypeId). o.0 < types) (sym of_.is) lt }
+
   first_of : (t s m : ℕ) → length members ≤ length signs → t < types → IsSignedIn members signs t s m → (n : ℕ) × (slice_get picks n ≡ Some true) × IsSignedIn members signs t s n
   first_of t s m short within here =
       let p = place_at t s m here in
-      let long = first.long in
-      let f = item_at firsts m (let lt = slice_get_within places m p.0 p.1 in omega (arith, lt, long)) in
+      let f = item_at firsts m (let lt = slice_get_within places m p.0 p.1 in let long = first.long in omega (arith, lt, long)) in
       let least = first.first m f.0 f.1 in
-      let at = least.holds in
-      let e : at.key ≡ p.0 = one_item places m at.key p.0 at.stands p.1 in
-      let one = subst (λ (k : Place). AreOnePlace k at.twin) e ((tells at.key at.twin).0 at.equal) in
-      let in_ = placed_in t s f.0 at.twin short at.other_stands (sym one.owner ∙ p.2) (sym one.sign ∙ p.3) in
-      let lt = slice_get_within places f.0 at.twin at.other_stands in
-      let g = item_at firsts f.0 (omega (arith, lt, long)) in
-      let again = first.first f.0 g.0 g.1 in
-      let back : f.0 ≤ g.0 = elim (cases_lt g.0 f.0) [
-        | inr le ↦ le
-        | inl less ↦
-            let w = again.holds in
-            let same : w.key ≡ at.twin = one_item places f.0 w.key at.twin w.stands at.other_stands in
-            let two = subst (λ (k : Place). AreOnePlace k w.twin) same ((tells w.key w.twin).0 w.equal) in
-            absurd (least.least g.0 less (record { key = p.0; stands = p.1; twin = w.twin; other_stands = w.other_stands; equal = (tells p.0 w.twin).1 (place_through p.0 at.twin w.twin one two) }))
-      ] in
-      let self : g.0 ≤ f.0 = elim (cases_lt f.0 g.0) [
-        | inr le ↦ le
-        | inl less ↦ absurd (again.least f.0 less (twin t s f.0 f.0 in_ in_))
-      ] in
-      let fixed : g.0 ≡ f.0 = omega (arith, back, self) in
-      let picked : IsPickedAt types members firsts f.0 = (g.1 ∙ ap Some fixed, record { row = in_.0.row; stands = in_.0.stands; is = subst (λ (n : ℕ). n < types) (sym (ap (λ (o : TypeId). o.0) in_.0.is)) within }) in
-      let placed_long = placed.long in
-      (f.0, are.no_ f.0 (omega (arith, lt, placed_long)) picked, in_)
+      let b = one_place m f.0 p.0 p.1 least.holds in
+      let in_ = placed_in t s f.0 b.0 short b.1 (sym b.2.owner ∙ p.2) (sym b.2.sign ∙ p.3) in
+      let lt = slice_get_within places f.0 b.0 b.1 in
+      let g = item_at firsts f.0 (let long = first.long in omega (arith, lt, long)) in
+      let fixed = first_again m f.0 g.0 p.0 p.1 least (first.first f.0 g.0 g.1) in
+      (f.0, are.no_ f.0 (let long = placed.long in omega (arith, lt, long)) (subst (λ (n : ℕ). slice_get firsts f.0 ≡ Some n) fixed g.1, owner_within t f.0 in_.0 within), in_)
 
   pub are_picks : length members ≤ length signs → ArePicks types members signs picks
   are_picks short = record {
