@@ -1,0 +1,2 @@
+-- Which interfaces types name, by one more row.
+pub mod Named
