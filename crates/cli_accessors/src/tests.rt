@@ -4,8 +4,8 @@ use crate::{Part, accessors_of};
 use cli_metadata::Metadata;
 use std::test::Fail;
 
-// The metadata of a class with a property that is read and written, of the methods 1 and 2, and one that is written, of the
-// method 3, as mcs wrote it.
+// The metadata of a class with a property that is read and written, of the methods 2 and 3, and one that is written, of the
+// method 4, as mcs wrote it.
 const WHOLE: [u8; 620] = [
     0x42, 0x53, 0x4A, 0x42, 0x01, 0x00, 0x01, 0x00, 0x00, 0x00, 0x00, 0x00, 0x0C, 0x00, 0x00, 0x00,
     0x76, 0x34, 0x2E, 0x30, 0x2E, 0x33, 0x30, 0x33, 0x31, 0x39, 0x00, 0x00, 0x00, 0x00, 0x05, 0x00,
@@ -55,9 +55,9 @@ fn accessors_that_a_compiler_wrote(rt: HostRuntime) -> Result<(), Fail> {
         panic!(rt; "the metadata stands");
     };
     let getters = accessors_of(alloc, &metadata, Part::Getter)?;
-    assert_eq!(rt; getters.as_slice(), [Some(1), None].as_slice());
+    assert_eq!(rt; getters.as_slice(), [Some(2), None].as_slice());
     let setters = accessors_of(alloc, &metadata, Part::Setter)?;
-    assert_eq!(rt; setters.as_slice(), [Some(2), Some(3)].as_slice());
+    assert_eq!(rt; setters.as_slice(), [Some(3), Some(4)].as_slice());
     let others = accessors_of(alloc, &metadata, Part::Other)?;
     assert_eq!(rt; others.as_slice(), [None, None].as_slice());
     Ok(())
