@@ -8,7 +8,8 @@ use Rattle.cli_lists.specs.declared.lists.Lists.{Lists}
 use Rattle.cli_lists.specs.Starts.{cell_of, AreStarts, IsInList}
 use Rattle.cli_lists.specs.Lists.{lists_of, AreLists, HaveEachRow, IsListColumn}
 use Rattle.cli_lists.specs.Laws.{StandInOrder}
-use Rattle.cli_members.specs.Members.{IsMemberField, IsMemberMethod}
+use Rattle.cli_members.specs.Members.{IsMemberField, IsMemberMethod, AreThose, AreRows}
+use Rattle.cli_members.specs.declared.numbers.Owned.{Owned}
 use Rattle.cli_members.proofs.Those.{IsOrdered}
 
 -- ---- lists stand one behind the other
@@ -98,3 +99,21 @@ field_row m lists n r same are listed = (
   row_low (lists_of m).fields n r (subst (λ (c : ListColumn). IsListColumn c) (fields_same m lists same) are.fields) listed,
   listed.within,
 )
+
+-- ---- what is found are rows
+
+pub rows_of_fields : (m : Contents) (own : List TypeRow) (lists : Lists) (owned : List Owned) → lists ≡ lists_of m → AreLists lists → HaveEachRow m lists → AreThose (IsMemberField m own) owned → AreRows m tables.Field owned
+rows_of_fields m own lists owned same are have those = λ j o at.
+    let is = those.right j o at in
+    let row = field_row m lists o.owner o.row same are is.listed in
+    record { a_type = is.a_type; typed = field_few m own lists o.owner o.row same have is; low = row.0; high = row.1 }
+
+pub rows_of_methods : (m : Contents) (lists : Lists) (owned : List Owned) → lists ≡ lists_of m → AreLists lists → HaveEachRow m lists → AreThose (IsMemberMethod m) owned → AreRows m tables.MethodDef owned
+rows_of_methods m lists owned same are have those = λ j o at.
+    let is = those.right j o at in
+    record {
+      a_type = is.a_type;
+      typed = method_few m lists o.owner o.row same have is;
+      low = row_low (lists_of m).methods o.owner o.row (subst (λ (c : ListColumn). IsListColumn c) (methods_same m lists same) are.methods) is.listed;
+      high = is.listed.within;
+    }

@@ -4,6 +4,7 @@ use Rattle.dc_base.specs.declared.names.Token.{Token}
 use Rattle.dc_base.specs.declared.ty.Prim_.{Prim_}
 use Rattle.class_rows.specs.declared.row.TypeRow.{TypeRow}
 use Rattle.class_rows.specs.declared.row.Kind.TheVariants as kind
+use Rattle.cli_metadata.specs.declared.tables.Table.{Table}
 use Rattle.cli_metadata.specs.declared.tables.Table.TheVariants as tables
 use Rattle.cli_metadata.specs.Metadata.{Contents, rows_of, row_of}
 use Rattle.cli_tables.specs.declared.members.FieldRow.{FieldRow}
@@ -50,6 +51,16 @@ pub record AreThose (Is : ℕ → ℕ → Type 0) (owned : List Owned) : Type 0 
   pub in_order : AreInOrder owned
   pub right : (j : ℕ) (o : Owned) → slice_get owned j ≡ Some o → Is o.owner o.row
   pub all : (n r : ℕ) → Is n r → (j : ℕ) × (slice_get owned j ≡ Some (record { owner = n; row = r }))
+
+-- each is a row of this table, and stands in the list of a row of TypeDef behind the first
+pub record IsRow (m : Contents) (table : Table) (o : Owned) : Type 0 where
+  pub a_type : 2 ≤ o.owner
+  pub typed : o.owner ≤ rows_of m tables.TypeDef
+  pub low : 1 ≤ o.row
+  pub high : o.row ≤ rows_of m table
+
+abbrev pub AreRows : Contents → Table → List Owned → Type 0
+AreRows m table owned = (j : ℕ) (o : Owned) → slice_get owned j ≡ Some o → IsRow m table o
 
 -- ---- which member a token means
 

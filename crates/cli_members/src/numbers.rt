@@ -5,7 +5,7 @@ ghost use Rattle.std.specs.Bool.{OnTrue, OnFalse};
 ghost use Rattle.cli_metadata.specs.declared.tables.Table.TheVariants as tables;
 ghost use Rattle.cli_metadata.specs.Metadata.{rows_of};
 ghost use Rattle.cli_lists.specs.Lists.{HaveEachRow, lists_of, AreLists};
-ghost use Rattle.cli_members.specs.Members.{field_at, IsEnum, IsMemberField, IsMemberMethod, IsShared, AreThose};
+ghost use Rattle.cli_members.specs.Members.{field_at, IsEnum, IsMemberField, IsMemberMethod, IsShared, AreThose, AreRows};
 
 use class_rows::{Kind, TypeRow};
 use cli_flags::{MemberFlag, has_member_flag};
@@ -33,7 +33,8 @@ pub fn member_fields(
     requires same { lists.now ≡ lists_of metadata.now }
     requires each_row { HaveEachRow metadata.now lists.now }
     requires lists { AreLists lists.now }
-    ensures { IfOk result (λ fields. AreThose (IsMemberField metadata.now own.now) fields.items) }
+    ensures those { IfOk result (λ fields. AreThose (IsMemberField metadata.now own.now) fields.items) }
+    ensures rows { IfOk result (λ fields. AreRows metadata.now tables.Field fields.items) }
 {
     let mut found = Vec::new(alloc);
     for n in 1..metadata.rows(Table::TypeDef) {
@@ -56,7 +57,8 @@ pub fn member_methods(
     requires same { lists.now ≡ lists_of metadata.now }
     requires each_row { HaveEachRow metadata.now lists.now }
     requires lists { AreLists lists.now }
-    ensures { IfOk result (λ methods. AreThose (IsMemberMethod metadata.now) methods.items) }
+    ensures those { IfOk result (λ methods. AreThose (IsMemberMethod metadata.now) methods.items) }
+    ensures rows { IfOk result (λ methods. AreRows metadata.now tables.MethodDef methods.items) }
 {
     let mut found = Vec::new(alloc);
     for n in 1..metadata.rows(Table::TypeDef) {

@@ -2,7 +2,7 @@ use Rattle.std.proofs.Common.{◌+◌, arith}
 use Rattle.std.proofs.lemmas.Bool.{OnTrue_at, OnFalse_at}
 use Rattle.cli_members.specs.Members.{IsMemberField}
 use Rattle.cli_members.proofs.Those.{list_begun, one_row_more, one_row_passed, list_ended, all_ended}
-use Rattle.cli_members.proofs.Listed.{fields_range, ordered_fields, field_few, field_row}
+use Rattle.cli_members.proofs.Listed.{rows_of_fields, fields_range, ordered_fields, field_few, field_row}
 use Rattle.cli_members.proofs.numbers.member_fields.Goals as goal
 use Rattle.cli_members.proofs.numbers.member_fields.Goals.{then-is_member+in_ok-push, else-is_member}
 
@@ -52,11 +52,14 @@ loop-n-preserved c =
     (λ r is. let less = ((fields_range m c.args.lists.now (c.loop-n.n + 1) c.list-list.result.start c.list-list.result.end c.requires.same c.list-list.ensures r).1 is.listed).1 in omega (arith, less, over))
     c.loop-row.invariant
 
-pub returns : goal.returns
-returns c =
+pub returns-clause-those : goal.returns-clause-those
+returns-clause-those c =
     let m = c.args.metadata.now in
     let over = c.loop-n-test.false in
     let rows = c.rows-n-end.ensures in
     all_ended (IsMemberField m c.args.own.now) (c.loop-n.n + 1) c.loop-n.found.items
     (λ t r is. let few = field_few m c.args.own.now c.args.lists.now t r c.requires.same c.requires.each_row is in omega (arith, few, over, rows))
     c.loop-n.invariant
+
+pub returns-clause-rows : goal.returns-clause-rows
+returns-clause-rows c = rows_of_fields c.args.metadata.now c.args.own.now c.args.lists.now c.loop-n.found.items c.requires.same c.requires.lists c.requires.each_row (returns-clause-those c)
