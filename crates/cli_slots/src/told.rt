@@ -20,7 +20,7 @@ pub struct Told {
 }
 
 /// What is told of one member.
-#[derive(Clone, Copy, Debug)]
+#[derive(Clone, Copy)]
 pub struct Word {
     pub virt: Virt,
     pub pick: bool,
