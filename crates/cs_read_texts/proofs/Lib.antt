@@ -1,7 +1,5 @@
 -- Which calls cite each file in the proof of their clauses. A file without a call serves the files that are cited.
 -- read::unit_of_text, read::reference_of_text
 pub mod Reading
--- read::reference_of_text, laws::one_reference
-pub mod References
 -- laws::one_text, laws::one_reference
 pub mod OneText

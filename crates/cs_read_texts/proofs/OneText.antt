@@ -13,7 +13,7 @@ use Rattle.cs_productions.specs.Tokens.{kind}
 use Rattle.cs_units.specs.Declarations.{unit_at, inside}
 use Rattle.cs_units.proofs.ExactDeclarations.{exact_unit_at, exact_inside}
 use Rattle.cs_references.specs.Declarations.{text_at}
-use Rattle.cs_read_texts.proofs.References.{exact_text_at}
+use Rattle.cs_references.proofs.DeeperDeclarations.{exact_text_at}
 use Rattle.cs_read_texts.specs.declared.fault.ReadFault.{ReadFault}
 use Rattle.cs_read_texts.specs.declared.fault.ReadFault.TheVariants.{Lex, Parse, Deep}
 use Rattle.cs_read_texts.specs.Texts.{IsText, HasNoToken, Begins, HasNoTree, IsAnswer, HasOneText, HasOneReference}

@@ -162,7 +162,13 @@ grows_unit_from y =
     to refl refl
     (grows_then (grows_rounds (kw_namespace ∷ decl_kinds) [] refl refl (λ spaces. grows_one_more_space spaces y)) refl (λ spaces. grows_gives _))
 
+pub exact_text_at : (limit nesting : ℕ) → Exact kind (text_at limit nesting) (kw_namespace ∷ decl_kinds) (kw_namespace ∷ decl_kinds) true
+exact_text_at limit nesting = exact_unit_from (exact_type_at limit nesting)
+
+pub deeper_text_at : (limit nesting : ℕ) → Deeper (text_at limit nesting) (text_at (limit + 1) (nesting + 1))
+deeper_text_at limit nesting =
+    (grows_unit_from (grows_type_at limit (limit + 1) nesting (nesting + 1) (omega arith) (omega arith))).deeper
+
 pub has_one_reference_text : HasOneReferenceText
 has_one_reference_text limit nesting =
-    answers_once (exact_unit_from (exact_type_at limit nesting)) (exact_unit_from (exact_type_at (limit + 1) (nesting + 1)))
-    (grows_unit_from (grows_type_at limit (limit + 1) nesting (nesting + 1) (omega arith) (omega arith))).deeper
+    answers_once (exact_text_at limit nesting) (exact_text_at (limit + 1) (nesting + 1)) (deeper_text_at limit nesting)

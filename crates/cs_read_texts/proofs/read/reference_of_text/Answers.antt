@@ -5,7 +5,7 @@ use Rattle.cs_token.specs.Placed.{Placed as Token}
 use Rattle.cs_tree.specs.declared.declarations.Unit.{Unit as WholeText}
 use Rattle.cs_grammar.specs.Reads.{Reads}
 use Rattle.cs_references.specs.Declarations.{text_at}
-use Rattle.cs_read_texts.proofs.References.{exact_text_at, deeper_text_at}
+use Rattle.cs_references.proofs.DeeperDeclarations.{exact_text_at, deeper_text_at}
 use Rattle.cs_read_texts.specs.declared.fault.ReadFault.{ReadFault}
 use Rattle.cs_read_texts.specs.Texts.{IsRead}
 use Rattle.cs_read_texts.proofs.Reading.{tells}

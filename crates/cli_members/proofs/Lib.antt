@@ -1,0 +1,4 @@
+pub mod Those
+pub mod Listed
+pub mod Accessors
+pub mod Places

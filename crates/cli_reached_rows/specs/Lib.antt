@@ -1,0 +1,2 @@
+-- What a reader must believe: which rows an assembly reaches.
+pub mod Reached

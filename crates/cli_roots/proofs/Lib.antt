@@ -1,0 +1,2 @@
+-- Tokens row by row.
+pub mod First

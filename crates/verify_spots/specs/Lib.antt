@@ -1,0 +1,2 @@
+-- Inner facts: what is asked of regions.
+pub mod Questions
