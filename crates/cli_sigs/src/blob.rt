@@ -64,9 +64,20 @@ fn member_fault(alloc: Global, blob: &[u8]) -> Result<Option<SigFault>, NoMemory
     requires { length blob.now < 2 ^ 31 }
     ensures { IfOk result (IsThe (IsSigFault (IsBlob (member_kind blob.now)) blob.now)) }
 {
+    if is_field(blob) {
+        Ok(field_fault(blob))
+    } else {
+        method_fault(alloc, blob)
+    }
+}
+
+fn is_field(blob: &[u8]) -> bool
+    ensures yes { OnTrue result (member_kind blob.now ≡ kinds.Field) }
+    ensures no { OnFalse result (member_kind blob.now ≡ kinds.Method) }
+{
     match blob {
-        [0x06, ..] => Ok(field_fault(blob)),
-        _ => method_fault(alloc, blob),
+        [first, ..] => *first == 0x06,
+        _ => false,
     }
 }
 

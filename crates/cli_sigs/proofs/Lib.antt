@@ -1,0 +1,3 @@
+-- Inner proofs.
+mod Placed
+mod Order
