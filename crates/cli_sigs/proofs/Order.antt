@@ -9,7 +9,7 @@ use Rattle.cli_sigs.specs.declared.refusal.SigRefusal.{SigRefusal}
 use Rattle.cli_sigs.specs.declared.table.SigTable.{SigTable}
 use Rattle.cli_sigs.specs.declared.table.SigTable.TheVariants.{Field, MethodDef, MemberRef, StandAloneSig, Property, TypeSpec}
 use Rattle.cli_sigs.specs.Rows.{Subject, table_number, table_of, token_at}
-use Rattle.cli_sigs.specs.First.{Fails, Failure, IsFailure, ComesBefore, IsFirst, HaveSignatures, NoneFails, IsFirstIn, refusal_of}
+use Rattle.cli_sigs.specs.First.{Fails, IsFirst, HaveSignatures, NoneFails, IsFirstIn}
 
 abbrev pub all : List SigTable
 all = Field ∷ MethodDef ∷ MemberRef ∷ StandAloneSig ∷ Property ∷ TypeSpec ∷ []

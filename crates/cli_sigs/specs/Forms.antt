@@ -1,6 +1,5 @@
 -- What is wrong with the signature of a row (ECMA-335 II.23.2).
 use Rattle.std.specs.Prelude.{◌≡◌, ◌≢◌, ℕ, ◌+◌, ◌≤◌, ◌==◌, List, [], ◌∷◌, Option, Some, None, cond}
-use Rattle.cli_metadata.specs.declared.fault.MetaFault.{MetaFault}
 use Rattle.cli_metadata.specs.Metadata.{Contents, IsItem, IsNoItem, IsFaultAt}
 use Rattle.cli_signature.specs.declared.kind.Kind.{Kind}
 use Rattle.cli_signature.specs.declared.kind.Kind.TheVariants as kinds
@@ -13,7 +12,7 @@ use Rattle.cli_sigs.specs.declared.form.Form.TheVariants.{Field, Method, Constru
 use Rattle.cli_sigs.specs.declared.refusal.SigCause.{SigCause}
 use Rattle.cli_sigs.specs.declared.refusal.SigCause.TheVariants.{Meta, Sig}
 
--- a signature by itself is that of a field from byte 06 on, and of a method elsewhere (II.23.2.1, II.23.2.4)
+-- the signature of a reference to a member is that of a field where it begins with byte 06, and else that of a method (II.22.25)
 abbrev pub member_kind : List ℕ → Kind
 member_kind [] = kinds.Method
 member_kind (byte ∷ rest) = cond (byte == 0x06) kinds.Field kinds.Method

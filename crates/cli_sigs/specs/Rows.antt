@@ -1,5 +1,5 @@
 -- The rows that are asked for a signature, each table at its own section of ECMA-335 II.22.
-use Rattle.std.specs.Prelude.{◌≡◌, ℕ, ◌+◌, ◌-◌, ◌*◌, ◌^◌, ◌≤◌, ◌<◌, Bool, true, false, List, slice_index_or, Option, Some, None, cond}
+use Rattle.std.specs.Prelude.{ℕ, ◌+◌, ◌-◌, ◌*◌, ◌^◌, ◌<◌, Bool, false, List, slice_index_or, Option, Some, None, cond}
 use Rattle.dc_base.specs.declared.names.Token.{Token}
 use Rattle.cli_metadata.specs.declared.tables.Table.{Table}
 use Rattle.cli_metadata.specs.declared.tables.Table.TheVariants as tables
