@@ -10,6 +10,7 @@
 mod blob;
 mod check;
 mod form;
+mod laws;
 mod refusal;
 mod single;
 mod subject;
@@ -18,4 +19,5 @@ mod table;
 mod tests;
 
 pub use check::{check_signatures, sig_rows_fit_tokens};
+pub use laws::one_first_refusal;
 pub use refusal::{SigCause, SigRefusal};

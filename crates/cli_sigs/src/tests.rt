@@ -1,6 +1,6 @@
 // The signatures of metadata made by hand.
 
-use crate::{SigCause, SigRefusal, check_signatures, sig_rows_fit_tokens};
+use crate::{SigCause, SigRefusal, check_signatures, one_first_refusal, sig_rows_fit_tokens};
 use cli_metadata::{MetaCause, MetaFault, Metadata};
 use cli_signature::SigFault;
 use dc_base::{NoMemory, Or, Token};
@@ -140,5 +140,6 @@ fn first_signature_that_fails(rt: HostRuntime) -> Result<(), Fail> {
     let delegates = [FIELD, CONSTRUCTOR, CONSTRUCTOR, LOCALS, PROPERTY, ARRAY];
     assert!(rt; refusal(&rt, alloc, delegates, true, true)?.is_none());
     assert!(rt; refusal(&rt, alloc, RIGHT, true, true)?.is_none());
+    one_first_refusal();
     Ok(())
 }
