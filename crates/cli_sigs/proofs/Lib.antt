@@ -1,0 +1,4 @@
+-- Inner proofs.
+mod Placed
+mod Order
+mod One
