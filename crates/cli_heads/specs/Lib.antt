@@ -6,3 +6,4 @@ pub mod Known
 pub mod Begun
 pub mod Head
 pub mod Fault
+pub mod Trees

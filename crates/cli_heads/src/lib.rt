@@ -22,8 +22,10 @@ mod read;
 mod row;
 #[cfg(test)]
 mod tests;
+mod trees;
 
 pub use constant::Constant;
 pub use head::{Head, Store, Value};
 pub use maker::Maker;
 pub use read::{BadHead, bad_head, read_head};
+pub use trees::trees_are_code;

@@ -1,6 +1,6 @@
 // Heads that are taken, and code that begins with none.
 
-use crate::{BadHead, Head, Maker, read_head};
+use crate::{BadHead, Head, Maker, bad_head, read_head};
 use cil_aims::aimed;
 use cil_body::{Body, Clause, ClauseKind};
 use cil_instruction::{Instr, Op};
@@ -247,6 +247,13 @@ fn check<R: Abort>(
     };
     let found = told(alloc, read_head(alloc, &maker, marks.as_slice()))?;
     assert_eq!(rt; found.as_str(), due);
+    match bad_head(alloc, &maker, marks.as_slice())? {
+        Some(offset) => {
+            let at = format!(in alloc; "at {}", offset)?;
+            assert_eq!(rt; at.as_str(), due);
+        }
+        None => assert!(rt; !due.starts_with("at")),
+    }
     Ok(())
 }
 
