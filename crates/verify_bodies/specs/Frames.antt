@@ -84,7 +84,3 @@ IsVerified s body = (table : Table) × AreFrames s body table
 pub record AreLeastFrames (s : Setting) (body : Body) (table : Table) : Type 0 where
   pub frames : AreFrames s body table
   pub least : (other : Table) → AreFrames s body other → (i : ℕ) (frame : List Slot) → HasFrame table i frame → IsWithin other i frame
-
--- where there are frames there are least ones
-abbrev pub LeastFramesExist : Type 0
-LeastFramesExist = (s : Setting) (body : Body) → IsSettingOf s body → IsVerified s body → (table : Table) × AreLeastFrames s body table

@@ -1,0 +1,2 @@
+-- What a reader must believe: that least frames exist.
+pub mod Exist
