@@ -38,24 +38,24 @@ module _ (types : List TypeRow) (members : List MemberRow) (explicit : List (Mem
     one_like t n k x y = elim (eqb n k) as (λ e. eqb n k ≡ e → n ≡ k) [
       | true ↦ λ e. eqb-true n k e
       | false ↦ λ e. absurd (unique n (inl (record {
-          n = k;
-          beside = record {
-            apart = eqb-false n k e;
-            named = x.1;
-            other_named = y.1;
-            a = x.0.row;
-            stands = x.0.stands;
-            b = y.0.row;
-            other_stands = y.0.stands;
-            one_owner = x.0.is.0 ∙ sym y.0.is.0;
-          };
-          agree = record {
-            name = x.0.is.3.name ∙ sym y.0.is.3.name;
-            sort = x.0.is.3.sort ∙ sym y.0.is.3.sort;
-            params = no_params _ _ _ x.0.is.3.params none ∙ sym (no_params _ _ _ y.0.is.3.params none);
-            result = x.0.is.3.result ∙ sym y.0.is.3.result;
-          };
-        })))
+        n = k;
+        beside = record {
+          apart = eqb-false n k e;
+          named = x.1;
+          other_named = y.1;
+          a = x.0.row;
+          stands = x.0.stands;
+          b = y.0.row;
+          other_stands = y.0.stands;
+          one_owner = x.0.is.0 ∙ sym y.0.is.0;
+        };
+        agree = record {
+          name = x.0.is.3.name ∙ sym y.0.is.3.name;
+          sort = x.0.is.3.sort ∙ sym y.0.is.3.sort;
+          params = no_params _ _ _ x.0.is.3.params none ∙ sym (no_params _ _ _ y.0.is.3.params none);
+          result = x.0.is.3.result ∙ sym y.0.is.3.result;
+        };
+      })))
     ] refl
 
     one_nearest : (t n k : ℕ) → IsNearest types members explicit row t n → IsNearest types members explicit row t k → n ≡ k

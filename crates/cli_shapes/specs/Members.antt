@@ -18,7 +18,7 @@ IsLent s k = HasOwnMember s k (λ row. row.result.lent ≡ true)
 abbrev pub IsFullInInterface : Own → ℕ → Type 0
 IsFullInInterface s k =
     HasOwnMember s k (λ row. HasType s.table.now.types row.owner.0 (λ owner. owner.kind ≡ Interface)
-        × ((row.is_static ≡ true) ⊎ IsTold s k (λ told. told.has_body ≡ true)))
+    × ((row.is_static ≡ true) ⊎ IsTold s k (λ told. told.has_body ≡ true)))
 
 -- the member is one of System.Object
 abbrev pub IsOfObject : Own → ℕ → Type 0

@@ -1,5 +1,5 @@
 -- The types and members of the assembly itself: in the class table they stand behind those of its references (ECMA-335 II.22).
-use Rattle.std.specs.Prelude.{◌≡◌, ℕ, ◌+◌, ◌*◌, ◌^◌, ◌<◌, ◌≤◌, length, Some, slice_get}
+use Rattle.std.specs.Prelude.{◌≡◌, ℕ, ◌+◌, ◌*◌, ◌^◌, ◌<◌, ◌≤◌, List, length, Some, slice_get}
 use Rattle.dc_base.specs.declared.names.Token.{Token}
 use Rattle.class_rows.specs.declared.row.TypeRow.{TypeRow}
 use Rattle.class_rows.specs.declared.row.MemberRow.{MemberRow}
@@ -36,10 +36,15 @@ HasOf s t Fact = (k : ℕ) × IsOf s t Fact k
 abbrev pub type_token : ℕ → Token
 type_token t = record { 0 = 0x02 * 2 ^ 24 + (t + 2) }
 
+-- the tokens rise
+abbrev pub AreRising : List Told → Type 0
+AreRising told =
+    (i j : ℕ) (a b : Told) → i < j → slice_get told i ≡ Some a → slice_get told j ≡ Some b → a.token.0 < b.token.0
+
 -- what is handed in fits together: own types and members end the lists of the table, three bytes hold each row's number, and
 -- the tokens of members rise
 pub record IsSound (s : Own) : Type 0 where
   pub types : s.first_type.0 ≤ length s.table.now.types
   pub few_types : length s.table.now.types + 1 < s.first_type.0 + 2 ^ 24
   pub members : length s.table.now.members ≡ s.first_member.0 + length s.told.now
-  pub order : (i j : ℕ) (a b : Told) → i < j → slice_get s.told.now i ≡ Some a → slice_get s.told.now j ≡ Some b → a.token.0 < b.token.0
+  pub order : AreRising s.told.now

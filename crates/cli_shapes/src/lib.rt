@@ -26,4 +26,4 @@ mod tests;
 mod types;
 
 pub use check::check_shapes;
-pub use own::{Instances, Own, Told};
+pub use own::{Instances, Own, Told, is_sound};

@@ -1,7 +1,8 @@
 // What the conditions are asked of.
 
 ghost use Rattle.std.specs.Prelude.{◌≡◌, ◌+◌, ◌-◌, ◌<◌, length, slice_get, Some};
-ghost use Rattle.cli_shapes.specs.Own.{IsSound, type_token};
+ghost use Rattle.std.specs.Bool.{OnTrue};
+ghost use Rattle.cli_shapes.specs.Own.{IsSound, AreRising, type_token};
 
 use class_rows::{MemberRow, TypeRow};
 use class_table::ClassTable;
@@ -84,4 +85,32 @@ impl<'a> Own<'a> {
         let _count = self.table.members();
         MemberId(self.first_member.0 + k as u32)
     }
+}
+
+/// Whether what is handed in fits together: own types and members end the lists of the table, three bytes hold each row's
+/// number, and the tokens of members rise.
+pub fn is_sound(own: &Own<'_>) -> bool
+    ensures { OnTrue result (IsSound own.now) }
+{
+    let types = own.table.types();
+    let members = u64::from(own.table.members());
+    own.first_type.0 <= types
+        && u64::from(types) + 1 < u64::from(own.first_type.0) + 0x100_0000
+        && members == u64::from(own.first_member.0) + own.told.len() as u64
+        && are_rising(own.told)
+}
+
+// Whether the tokens of members rise.
+fn are_rising(told: &[Told]) -> bool
+    ensures { OnTrue result (AreRising told.now) }
+{
+    let mut bound: u64 = 0;
+    for k in 0..told.len() {
+        let number = u64::from(told[k].token.0);
+        if number < bound {
+            return false;
+        }
+        bound = number + 1;
+    }
+    true
 }

@@ -104,8 +104,9 @@ impl Shape {
         ensures { IsTokenOf self rows.now n result }
     {
         match self {
-            Shape::RefShape | Shape::InterfaceShape | Shape::Finalizer | Shape::ArrayDepth =>
-                rows.own.told[n].token,
+            Shape::RefShape | Shape::InterfaceShape | Shape::Finalizer | Shape::ArrayDepth => rows
+                .own
+                .told[n].token,
             _ => rows.own.type_token(n),
         }
     }
@@ -118,8 +119,10 @@ impl<'a> Asked<Rows<'a>> for Shape {
 
     fn rows(self, rows: &Rows<'a>) -> usize {
         match self {
-            Shape::RefShape | Shape::InterfaceShape | Shape::Finalizer | Shape::ArrayDepth =>
-                rows.own.told.len(),
+            Shape::RefShape | Shape::InterfaceShape | Shape::Finalizer | Shape::ArrayDepth => rows
+                .own
+                .told
+                .len(),
             _ => rows.own.types(),
         }
     }

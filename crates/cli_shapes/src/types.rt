@@ -108,7 +108,8 @@ pub(crate) fn is_other_enum(own: &Own<'_>, marks: &Marks, t: usize) -> bool
     ensures yes { OnTrue result (IsOtherEnum own.now t) }
     ensures no { OnFalse result (IsOtherEnum own.now t → ⊥) }
 {
-    is_enum(own, t) && (!is_over_integer(own, t) || has(own, Sought::Method, marks.method.items(), t))
+    is_enum(own, t)
+        && (!is_over_integer(own, t) || has(own, Sought::Method, marks.method.items(), t))
 }
 
 fn is_enum(own: &Own<'_>, t: usize) -> bool
