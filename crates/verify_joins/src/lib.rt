@@ -9,5 +9,7 @@
 
 mod meet;
 mod set;
+#[cfg(test)]
+mod tests;
 
 pub use meet::{join, joined_slot};
