@@ -1,9 +1,8 @@
 -- A count of one is that of the first row, and of no other.
-use Rattle.std.proofs.Common.{◌≡◌, ◌≢◌, ◌⊎◌, ◌∙◌, ℕ, zero, suc, ◌+◌, ◌-◌, ◌≤◌, ◌<◌, Option, Some, List, length, refl, sym, ap, subst, inl, inr, arith}
+use Rattle.std.proofs.Common.{◌≡◌, ◌≢◌, ◌∙◌, ℕ, ◌+◌, ◌-◌, ◌≤◌, Some, sym, subst, inl, inr, arith}
 use Rattle.std.specs.List.{slice_get}
 use Rattle.std.proofs.lemmas.Bool.{cases_lt}
 use Rattle.dc_base.specs.declared.ty.Ty.{Ty}
-use Rattle.dc_causes.specs.First.{IsLeast}
 use Rattle.cli_metadata.specs.declared.tables.Table.TheVariants as tables
 use Rattle.cli_metadata.specs.Metadata.{Contents, rows_of}
 use Rattle.cli_constants.specs.Owned.{IsConstantOf, AreMany, over, one_more, passed, IsOwned, AreConstants}

@@ -1,5 +1,5 @@
 -- At a place of a heap stands one item.
-use Rattle.std.proofs.Common.{◌≡◌, ◌∙◌, ℕ, ◌+◌, List, length, take, drop, Option, Some, None, Bool, true, false, is_some, refl, sym, ap, subst, inl, inr, arith}
+use Rattle.std.proofs.Common.{◌≡◌, ◌∙◌, ℕ, ◌+◌, List, length, take, drop, Option, Some, None, is_some, sym, ap, inl, inr, arith}
 use Rattle.std.specs.Bool.{OnTrue, OnFalse}
 use Rattle.dc_base.specs.Spelling.{BeginsWithOne}
 use Rattle.class_rows.specs.declared.row.Literal.{Literal}

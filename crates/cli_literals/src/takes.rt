@@ -8,6 +8,7 @@ use class_rows::{Kind, TypeRow};
 use dc_base::{Core, Prim_, Ty, TypeId};
 
 const STRING: u32 = 0x0E;
+
 const CLASS: u32 = 0x12;
 
 /// Whether a field of this type may have a constant of this element type. What the constant's bytes say isn't asked.

@@ -1,4 +1,4 @@
-use Rattle.std.proofs.Common.{◌≡◌, ◌∙◌, ℕ, ◌+◌, Option, ap, subst, arith}
+use Rattle.std.proofs.Common.{◌∙◌, ℕ, Option, ap, subst, arith}
 use Rattle.cli_metadata.specs.Metadata.{coded_of}
 use Rattle.cli_tables.specs.declared.members.ConstantRow.{ConstantRow}
 use Rattle.cli_literals.specs.Marks.{marked, AreMarkedTo}
