@@ -1,12 +1,11 @@
 -- One more row of Constant is looked at.
-use Rattle.std.proofs.Common.{◌≡◌, ◌≢◌, ◌⊎◌, ◌∙◌, ℕ, zero, suc, ◌+◌, ◌*◌, ◌^◌, ◌<◌, ◌≤◌, Bool, true, false, Option, Some, None, List, [], ◌∷◌, length, replicate, cond, eqb, inl, inr, refl, sym, ap, subst, arith}
+use Rattle.std.proofs.Common.{◌≡◌, ◌≢◌, ◌⊎◌, ◌∙◌, ℕ, zero, suc, ◌+◌, ◌*◌, ◌^◌, ◌<◌, ◌≤◌, Bool, true, false, Option, Some, None, List, [], ◌∷◌, length, cond, eqb, inl, inr, refl, sym, ap, subst, arith}
 use Rattle.std.proofs.Math.ListN.{set, length-set}
 use Rattle.std.proofs.Math.Dec.{ltb}
 use Rattle.std.specs.Prelude.{◌==◌, ◌||◌}
 use Rattle.std.specs.List.{slice_get}
 use Rattle.std.proofs.lemmas.Bool.{cases_lt, lt-ltb, le-ltb, cond-true, cond-false, eqb-true}
 use Rattle.std.proofs.lemmas.Bool.Decides.{nat_tests}
-use Rattle.std.proofs.lemmas.List.{length-replicate}
 use Rattle.std.proofs.lemmas.Option.{slice_get_within}
 use Rattle.dc_base.specs.declared.names.Token.{Token}
 use Rattle.cli_metadata.specs.declared.tables.Table.TheVariants as tables
@@ -65,11 +64,6 @@ set_over [] i v le = refl
 set_over (x ∷ xs) zero v le = absurd (omega arith)
 set_over {X} (x ∷ xs) (suc i) v le = ap (λ (ys : List X). x ∷ ys) (set_over xs i v (omega arith))
 
-of_replicate : {X : Type 0} (n : ℕ) (x : X) (j : ℕ) (y : X) → slice_get (replicate n x) j ≡ Some y → y ≡ x
-of_replicate zero x j y h = let none : None ≡ Some y = h in absurd cc
-of_replicate (suc n) x zero y h = let e : Some x ≡ Some y = h in cc
-of_replicate (suc n) x (suc j) y h = of_replicate n x j y h
-
 marked_is_set : (q : ℕ) (xs : List Bool) → marked_at q xs ≡ set xs q true
 marked_is_set q xs = elim (cases_lt q (length xs)) [
   | inl lt ↦ cond-true (ltb q (length xs)) (set xs q true) xs (lt-ltb q (length xs) lt)
@@ -77,17 +71,6 @@ marked_is_set q xs = elim (cases_lt q (length xs)) [
 ]
 
 -- ---- rows
-
-pub none_yet : (m : Contents) (n : ℕ) → n ≡ rows_of m tables.Field → (floats : List Bool) → floats ≡ replicate n false → AreMarkedTo m 0 floats
-none_yet m n same floats e = record {
-  long = ap length e ∙ length-replicate n false ∙ same;
-  each = λ j mark at.
-      let off : mark ≡ false = of_replicate n false j mark (subst (λ (xs : List Bool). slice_get xs j ≡ Some mark) e at) in
-      record {
-        yes_ = λ on. let both : false ≡ true = sym off ∙ on in absurd cc;
-        all_ = λ r up own float. let low = own.low in absurd (omega (arith, up, low));
-      };
-}
 
 module _ (m : Contents) (k : ℕ) (element : ℕ) (p : Option Token) (few : rows_of m tables.Field < 2 ^ 24) (high : k + 1 ≤ rows_of m tables.Constant) (its : element ≡ (constant_at m (k + 1)).element) (is : p ≡ coded_of (constant_at m (k + 1)).parent.kind (constant_at m (k + 1)).parent.cell) where
   -- it is the field's own where that is the one that it names
