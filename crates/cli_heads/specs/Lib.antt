@@ -7,3 +7,4 @@ pub mod Begun
 pub mod Head
 pub mod Fault
 pub mod Trees
+pub mod Alike
