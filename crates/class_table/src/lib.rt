@@ -15,4 +15,4 @@ mod table;
 mod tests;
 
 pub use buildable::is_buildable;
-pub use table::{ClassTable, build};
+pub use table::{ClassTable, TableRows, build};

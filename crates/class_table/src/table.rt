@@ -3,6 +3,7 @@
 ghost use Rattle.std.specs.Prelude.{◌≡◌, ◌<◌, ℕ, length, Some, slice_get, IsTrue, IfOk, IfErr};
 ghost use Rattle.dc_causes.specs.Answer.{OnFault};
 ghost use Rattle.class_rows.specs.Table.{IsClassTable, MakeTable};
+ghost use Rattle.class_rows.specs.Types.{InBaseChain, IsRound};
 ghost use Rattle.class_rows.specs.Lookups.{AreAssignable, IsAccessible, IsLookup, IsSlot};
 ghost use Rattle.class_lookup.specs.Left.{CanFind, found_left};
 ghost use Rattle.class_table.specs.Buildable.{IsBuildable};
@@ -11,7 +12,7 @@ use crate::parts::kept_of;
 use class_alike::Named;
 use class_assign::{Supers, assignable};
 use class_lookup::{Found, lookup};
-use class_parts::accessible;
+use class_parts::{accessible, derives, is_inside};
 use class_rows::{MemberRow, TableFault, TypeRow};
 use class_slots::slot;
 use dc_base::{MemberId, Or, Seq, Text, Ty, TypeId};
@@ -40,7 +41,34 @@ impl Model for ClassTable {
     ghost invariant = { λ t. IsKept t.types.items t.members.items t.explicit.items t.supers t.named t.slots };
 }
 
+/// The rows that a table was built of.
+#[derive(Drop)]
+pub struct TableRows {
+    pub types: Vec<TypeRow>,
+    pub members: Vec<MemberRow>,
+    pub explicit: Vec<(MemberId, MemberId)>,
+}
+
 impl ClassTable {
+    /// The rows that the table was built of, handed out so that further ones can be put behind them.
+    pub fn into_rows(self) -> TableRows
+        ensures types { result.types.items ≡ self.types }
+        ensures members { result.members.items ≡ self.members }
+        ensures explicit { result.explicit.items ≡ self.explicit }
+    {
+        let ClassTable {
+            types,
+            members,
+            explicit,
+            ..
+        } = self;
+        TableRows {
+            types,
+            members,
+            explicit,
+        }
+    }
+
     /// How many types there are.
     pub fn types(&self) -> u32
         ensures { result ≡ length self.now.types }
@@ -106,6 +134,24 @@ impl ClassTable {
         let types = self.types.as_slice();
         let members = self.members.as_slice();
         slot(types, members, self.explicit.as_slice(), &self.slots, m)
+    }
+
+    /// Whether a type is `above` or has it in its base chain. It takes the time of that chain.
+    pub fn derives(&self, t: TypeId, above: TypeId) -> bool
+        ensures yes { IsTrue result → InBaseChain self.now.types t.0 above.0 }
+        ensures no { InBaseChain self.now.types t.0 above.0 → IsTrue result }
+    {
+        let order = self.supers.orders.bases.items();
+        derives(self.types.as_slice(), order, t, above)
+    }
+
+    /// Whether a type is `round` or is nested in it, over however many others.
+    pub fn is_inside(&self, t: TypeId, round: TypeId) -> bool
+        ensures yes { IsTrue result → IsRound self.now.types t.0 round.0 }
+        ensures no { IsRound self.now.types t.0 round.0 → IsTrue result }
+    {
+        let order = self.supers.orders.outers.items();
+        is_inside(self.types.as_slice(), order, t, round)
     }
 
     /// Whether a member may be named from the type `from`; what is reached by an instance goes `through` its type.

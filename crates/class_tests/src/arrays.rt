@@ -60,3 +60,21 @@ fn references_go_up_and_arrays_with_their_elements(rt: HostRuntime) -> Result<()
     }
     Ok(())
 }
+
+#[test]
+fn a_table_hands_out_its_rows(rt: HostRuntime) -> Result<(), Fail> {
+    let table = table(rt.alloc(), &TYPES, &[], &[]);
+    let Ok(Some(table)) = table else {
+        panic!(rt; "no table");
+    };
+    let (first, second, third) = (TypeId(24), TypeId(25), TypeId(26));
+    assert!(rt; table.derives(third, second));
+    assert!(rt; !table.derives(second, third));
+    assert!(rt; table.is_inside(first, first));
+    assert!(rt; !table.is_inside(second, first));
+    let rows = table.into_rows();
+    assert_eq!(rt; rows.types.len(), 24 + TYPES.len());
+    assert!(rt; rows.members.is_empty());
+    assert!(rt; rows.explicit.is_empty());
+    Ok(())
+}
