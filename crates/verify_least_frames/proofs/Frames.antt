@@ -28,8 +28,8 @@ use Rattle.verify_rules.specs.Results.{leaves}
 use Rattle.verify_rules.specs.Rules.{Accepts, TellsThis}
 use Rattle.verify_narrower.specs.Narrower.{HasOnce, IsFrame}
 use Rattle.verify_narrower.proofs.Whole.{law}
-use Rattle.verify_bodies.specs.Spots.{IsRow, IsFirstOf, IsSpot}
-use Rattle.verify_bodies.specs.Frames.{Table, IsEntry, LeadsTo, IsAccepted, caught, entered, AreFrames, AreLeastFrames}
+use Rattle.verify_spots.specs.Spots.{IsRow, IsFirstOf, IsSpot}
+use Rattle.verify_spots.specs.Frames.{Table, IsEntry, LeadsTo, IsAccepted, caught, entered, AreFrames, AreLeastFrames}
 use Rattle.verify_least.specs.Flow.{Flow, IsMap, IsMonotone, IsFinite, HasJoins, IsHeight}
 use Rattle.verify_least.proofs.Least.{some_same}
 use Rattle.verify_least.proofs.Climb.{least_map}

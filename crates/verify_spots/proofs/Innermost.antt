@@ -14,7 +14,7 @@ use Rattle.cil_regions.specs.declared.region.Region.{Region}
 use Rattle.cil_regions.specs.declared.region.Span.{Span}
 use Rattle.cil_regions.specs.Region.{AreNodes, IsNode, IsLaminar, AreLaminar, Holds, spans_of, is_inside, ComesBefore}
 use Rattle.cil_regions.proofs.Inside.{lies_parts, inside_from, inside_asym}
-use Rattle.verify_bodies.specs.Spots.{StandsIn, IsInnermost}
+use Rattle.verify_spots.specs.Spots.{StandsIn, IsInnermost}
 use Rattle.verify_spots.specs.Questions.{IsLastRound, HasNoneRound, EndsNoFinally, span_of}
 
 -- a search from the last node back

@@ -6,7 +6,7 @@ use Rattle.cil_body.specs.declared.body.Body.{Body}
 use Rattle.cil_rows.specs.declared.row.Row.{Row}
 use Rattle.cil_rows.specs.declared.row.Row.TheVariants.{Return, Leave, EndFinally}
 use Rattle.cil_rows.specs.Flow.{aims_of}
-use Rattle.verify_bodies.specs.Spots.{HasRegion, Crosses, JumpsWrongly}
+use Rattle.verify_spots.specs.Spots.{HasRegion, Crosses, JumpsWrongly}
 
 module _ (body : Body) (i : ℕ) (b : Bool) where
   pub leads_yes : (row : Row) → (row ≡ Return → ⊥) → ((to : ℕ) → row ≡ Leave to → ⊥) → (row ≡ EndFinally → ⊥) → OnTrue b ((j : ℕ) × Contains (aims_of row) j × HasRegion body (Crosses body i j)) → OnTrue b (JumpsWrongly body i row)

@@ -5,7 +5,7 @@ use Rattle.std.specs.List.{Contains}
 use Rattle.cil_rows.specs.declared.row.Row.{Row}
 use Rattle.cil_rows.specs.Flow.{aims_of}
 use Rattle.verify_rules.specs.declared.setting.Setting.{Setting}
-use Rattle.verify_bodies.specs.Spots.{IsAimed, IsRow}
+use Rattle.verify_spots.specs.Spots.{IsAimed, IsRow}
 use Rattle.verify_spots.proofs.There.{item_is}
 
 -- what one more row marks

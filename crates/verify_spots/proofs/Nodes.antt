@@ -10,7 +10,7 @@ use Rattle.cil_regions.specs.declared.region.RegionKind.{RegionKind}
 use Rattle.cil_regions.specs.declared.region.Region.{Region}
 use Rattle.cil_regions.specs.declared.region.Span.{Span}
 use Rattle.cil_regions.specs.Region.{AreNodes, IsNode, spans_of}
-use Rattle.verify_bodies.specs.Spots.{HasRegion}
+use Rattle.verify_spots.specs.Spots.{HasRegion}
 use Rattle.verify_spots.specs.declared.region.Question.{Question}
 use Rattle.verify_spots.specs.declared.region.Question.TheVariants.{BeginsTry}
 use Rattle.verify_spots.specs.Questions.{Asks, HasNode, HasNoNode, span_of}

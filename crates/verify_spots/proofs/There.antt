@@ -7,7 +7,7 @@ use Rattle.cil_rows.specs.declared.row.Row.{Row}
 use Rattle.cil_rows.specs.Flow.{goes_on}
 use Rattle.verify_rules.specs.declared.setting.Setting.{Setting}
 use Rattle.verify_rules.specs.Kinds.{IsSo}
-use Rattle.verify_bodies.specs.Spots.{HasRegion, Crosses, FallsOff}
+use Rattle.verify_spots.specs.Spots.{HasRegion, Crosses, FallsOff}
 
 -- two values that are there are one
 value : {A : Type 0} → Option A → A → A

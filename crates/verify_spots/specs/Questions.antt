@@ -8,7 +8,7 @@ use Rattle.cil_regions.specs.declared.region.Region.{Region}
 use Rattle.cil_regions.specs.declared.region.Span.{Span}
 use Rattle.cil_rows.specs.declared.row.Row.{Row}
 use Rattle.verify_rules.specs.declared.setting.Setting.{Setting}
-use Rattle.verify_bodies.specs.Spots.{IsTry, IsHandler, IsFirstOf, StandsIn, Crosses, IsInnermost, IsRow, IsAimed, CallsConstructor}
+use Rattle.verify_spots.specs.Spots.{IsTry, IsHandler, IsFirstOf, StandsIn, Crosses, IsInnermost, IsRow, IsAimed, CallsConstructor}
 use Rattle.verify_spots.specs.declared.region.Question.{Question}
 use Rattle.verify_spots.specs.declared.region.Question.TheVariants as asked
 

@@ -7,7 +7,7 @@ ghost use Rattle.class_rows.specs.declared.row.Kind.TheVariants.{Class};
 ghost use Rattle.cli_assembly.specs.Meaning.{AreInOrder};
 ghost use Rattle.verify_rules.specs.Look.{method_row};
 ghost use Rattle.verify_rules.specs.Kinds.{IsSo};
-ghost use Rattle.verify_bodies.specs.Spots.{CallsConstructor, EndsHead, IsConstructor, IsOfClass};
+ghost use Rattle.verify_spots.specs.Spots.{CallsConstructor, EndsHead, IsConstructor, IsOfClass};
 ghost use Rattle.verify_spots.specs.Questions.{HasNoCall, IsFirstCall};
 
 use cil_rows::Row;

@@ -9,7 +9,7 @@ ghost use Rattle.cil_rows.specs.declared.row.Row.{Row};
 ghost use Rattle.cil_rows.specs.Flow.{goes_on};
 ghost use Rattle.verify_rules.specs.Kinds.{IsSo};
 ghost use Rattle.verify_spots.specs.Questions.{IsOwnTry, HasOwnTry, IsLastRound, HasNoneRound, EndsNoFinally};
-ghost use Rattle.verify_bodies.specs.Spots.{HasRegion, BeginsHandler, IsRow, StandsIn, Crosses, FallsOff, JumpsOff, JumpsWrongly, LeavesWrongly, EntersHandler, EntersTryInside, EntersOwnTry};
+ghost use Rattle.verify_spots.specs.Spots.{HasRegion, BeginsHandler, IsRow, StandsIn, Crosses, FallsOff, JumpsOff, JumpsWrongly, LeavesWrongly, EntersHandler, EntersTryInside, EntersOwnTry};
 
 use crate::region::{Question, Regions, has_region, is_finally, place, stands_in};
 use cil_body::Clause;

@@ -5,7 +5,7 @@ ghost use Rattle.std.specs.Bool.{OnTrue, OnFalse};
 ghost use Rattle.cil_regions.specs.declared.region.RegionKind.TheVariants.{Code, Finally};
 ghost use Rattle.cil_regions.specs.Region.{AreNodes, Holds};
 ghost use Rattle.cil_rows.specs.Code.{starts_of};
-ghost use Rattle.verify_bodies.specs.Spots.{HasRegion, IsPlace, IsTry, IsHandler, IsFirstOf, StandsIn, Crosses};
+ghost use Rattle.verify_spots.specs.Spots.{HasRegion, IsPlace, IsTry, IsHandler, IsFirstOf, StandsIn, Crosses};
 ghost use Rattle.verify_spots.specs.Questions.{Asks, HasNode, HasNoNode, span_of};
 
 use cil_body::Body;

@@ -4,7 +4,7 @@ ghost use Rattle.std.specs.Prelude.{◌≡◌, ◌<◌, ◌^◌, ℕ, Some, leng
 ghost use Rattle.std.specs.Bool.{OnTrue, OnFalse};
 ghost use Rattle.cil_regions.specs.Region.{AreNodes, IsLaminar, IsRegionTree};
 ghost use Rattle.cli_assembly.specs.Meaning.{AreInOrder};
-ghost use Rattle.verify_bodies.specs.Spots.{AreSpots, EndsHead, IsAimed, IsSpot};
+ghost use Rattle.verify_spots.specs.Spots.{AreSpots, EndsHead, IsAimed, IsSpot};
 ghost use Rattle.verify_spots.specs.Questions.{AreMarked};
 
 use crate::aim::aimed;

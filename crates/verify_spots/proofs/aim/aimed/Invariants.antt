@@ -2,7 +2,7 @@ use Rattle.std.proofs.Common.{◌≡◌, ℕ, ◌<◌, true, false, length, get_
 use Rattle.std.specs.List.{Contains}
 use Rattle.cil_rows.specs.declared.row.Row.{Row}
 use Rattle.cil_rows.specs.Flow.{aims_of}
-use Rattle.verify_bodies.specs.Spots.{IsAimed, IsRow}
+use Rattle.verify_spots.specs.Spots.{IsAimed, IsRow}
 use Rattle.verify_spots.proofs.aim.aimed.Given as goal
 
 abbrev pub invariant-loop-row : goal.invariant-loop-row

@@ -1,7 +1,7 @@
 use Rattle.std.proofs.Common.{ℕ, below_more, subst, arith}
 use Rattle.std.proofs.lemmas.Option.{slice_get_within}
 use Rattle.cil_rows.specs.declared.row.Row.{Row}
-use Rattle.verify_bodies.specs.Spots.{CallsConstructor, IsRow}
+use Rattle.verify_spots.specs.Spots.{CallsConstructor, IsRow}
 use Rattle.verify_spots.proofs.There.{item_is}
 use Rattle.verify_spots.proofs.head.first_call.Goals as goal
 

@@ -1,6 +1,6 @@
 use Rattle.std.proofs.Common.{ℕ, ◌<◌}
 use Rattle.cil_rows.specs.declared.row.Row.{Row}
-use Rattle.verify_bodies.specs.Spots.{CallsConstructor, IsRow}
+use Rattle.verify_spots.specs.Spots.{CallsConstructor, IsRow}
 use Rattle.verify_spots.proofs.head.first_call.Given as goal
 
 abbrev pub invariant-loop-number : goal.invariant-loop-number

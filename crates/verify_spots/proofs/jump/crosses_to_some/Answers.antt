@@ -1,6 +1,6 @@
 use Rattle.std.proofs.Common.{ℕ, get_or, below_more, sym, ◌∙◌, subst, arith}
 use Rattle.std.proofs.lemmas.List.{get_or_default}
-use Rattle.verify_bodies.specs.Spots.{HasRegion, Crosses}
+use Rattle.verify_spots.specs.Spots.{HasRegion, Crosses}
 use Rattle.verify_spots.proofs.jump.crosses_to_some.Goals as goal
 
 pub loop-to-preserved : goal.loop-to-preserved

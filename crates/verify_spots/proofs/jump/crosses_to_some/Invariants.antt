@@ -1,5 +1,5 @@
 use Rattle.std.proofs.Common.{ℕ, ◌<◌, get_or}
-use Rattle.verify_bodies.specs.Spots.{HasRegion, Crosses}
+use Rattle.verify_spots.specs.Spots.{HasRegion, Crosses}
 use Rattle.verify_spots.proofs.jump.crosses_to_some.Given as goal
 
 abbrev pub invariant-loop-to : goal.invariant-loop-to

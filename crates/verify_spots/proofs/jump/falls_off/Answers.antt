@@ -3,7 +3,7 @@ use Rattle.std.specs.Bool.{OnTrue, OnFalse}
 use Rattle.cil_rows.specs.declared.row.Row.{Row}
 use Rattle.cil_rows.specs.Flow.{goes_on}
 use Rattle.verify_rules.specs.Kinds.{IsSo}
-use Rattle.verify_bodies.specs.Spots.{HasRegion, Crosses}
+use Rattle.verify_spots.specs.Spots.{HasRegion, Crosses}
 use Rattle.verify_spots.proofs.There.{falls, falls_not}
 use Rattle.verify_spots.proofs.jump.falls_off.Goals as goal
 

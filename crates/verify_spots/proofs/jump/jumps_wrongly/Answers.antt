@@ -2,7 +2,7 @@ use Rattle.std.proofs.Common.{ℕ, List, sym, subst}
 use Rattle.std.specs.Bool.{OnTrue, OnFalse}
 use Rattle.std.specs.List.{Contains}
 use Rattle.cil_rows.specs.declared.row.Row.{Row}
-use Rattle.verify_bodies.specs.Spots.{HasRegion, Crosses, JumpsWrongly}
+use Rattle.verify_spots.specs.Spots.{HasRegion, Crosses, JumpsWrongly}
 use Rattle.verify_spots.proofs.Jumps.{leads_yes, leads_no}
 use Rattle.verify_spots.proofs.jump.jumps_wrongly.Goals as goal
 

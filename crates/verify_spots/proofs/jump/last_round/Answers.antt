@@ -1,6 +1,6 @@
 use Rattle.std.proofs.Common.{◌-◌, length, get_or, below_more, arith}
 use Rattle.cil_regions.specs.declared.region.Region.{Region}
-use Rattle.verify_bodies.specs.Spots.{StandsIn}
+use Rattle.verify_spots.specs.Spots.{StandsIn}
 use Rattle.verify_spots.specs.Questions.{span_of}
 use Rattle.verify_spots.proofs.Nodes.{none_here}
 use Rattle.verify_spots.proofs.Innermost.{found, not_found}

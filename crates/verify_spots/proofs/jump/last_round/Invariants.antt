@@ -1,6 +1,6 @@
 use Rattle.std.proofs.Common.{ℕ, ◌<◌, ◌-◌, length, get_or}
 use Rattle.cil_regions.specs.declared.region.Region.{Region}
-use Rattle.verify_bodies.specs.Spots.{StandsIn}
+use Rattle.verify_spots.specs.Spots.{StandsIn}
 use Rattle.verify_spots.specs.Questions.{span_of}
 use Rattle.verify_spots.proofs.jump.last_round.Given as goal
 

@@ -2,7 +2,7 @@ use Rattle.std.proofs.Common.{Option, slice_get, subst}
 use Rattle.std.specs.Bool.{OnTrue, OnFalse}
 use Rattle.cil_rows.specs.declared.row.Row.{Row}
 use Rattle.verify_rules.specs.Kinds.{IsSo}
-use Rattle.verify_bodies.specs.Spots.{JumpsWrongly}
+use Rattle.verify_spots.specs.Spots.{JumpsWrongly}
 use Rattle.verify_spots.proofs.There.{there_yes, there_no}
 use Rattle.verify_spots.proofs.jump.leads_wrongly.Goals as goal
 

@@ -2,7 +2,7 @@ use Rattle.std.proofs.Common.{◌≡◌, ℕ, ◌+◌, ◌<◌, List, [], ◌∷
 use Rattle.std.proofs.lemmas.List.{length-append}
 use Rattle.std.proofs.lemmas.Option.{slice_get_within, get_or_from_slice_get}
 use Rattle.verify_rules.specs.declared.setting.Spot.{Spot}
-use Rattle.verify_bodies.specs.Spots.{EndsHead, IsSpot}
+use Rattle.verify_spots.specs.Spots.{EndsHead, IsSpot}
 use Rattle.verify_spots.proofs.Standing.{less, pushed}
 use Rattle.verify_spots.proofs.spot.spots_among.Goals as goal
 

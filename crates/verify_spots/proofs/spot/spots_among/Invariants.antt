@@ -1,6 +1,6 @@
 use Rattle.std.proofs.Common.{◌≡◌, ℕ, ◌<◌, length, get_or}
 use Rattle.verify_rules.specs.declared.setting.Spot.{Spot}
-use Rattle.verify_bodies.specs.Spots.{IsSpot}
+use Rattle.verify_spots.specs.Spots.{IsSpot}
 use Rattle.verify_spots.proofs.spot.spots_among.Given as goal
 
 abbrev pub invariant-loop-number : goal.invariant-loop-number

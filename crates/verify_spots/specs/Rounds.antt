@@ -2,11 +2,10 @@
 -- instruction's frame those with which it is entered, and those that instructions leave which are accepted in the round
 -- before. The fault is that of the first round in which a rule is broken: at the least instruction, the first rule. Frames
 -- that don't agree where they meet break Merge there.
-use Rattle.std.specs.Prelude.{◌≡◌, ◌⊎◌, ◌↔◌, ℕ, suc, List, [], Option, Some, None, length, slice_get, replicate, Ok}
+use Rattle.std.specs.Prelude.{◌≡◌, ◌⊎◌, ℕ, suc, List, [], Option, Some, None, length, slice_get, replicate}
 use Rattle.dc_causes.specs.Step.{Step, Test, Then}
 use Rattle.dc_causes.specs.Causes.{InOrder, Below, Rounds}
 use Rattle.cil_body.specs.declared.body.Body.{Body}
-use Rattle.cil_regions.specs.Region.{IsNested}
 use Rattle.cil_rows.specs.declared.row.Row.{Row}
 use Rattle.verify_slots.specs.declared.slot.Slot.{Slot}
 use Rattle.verify_slots.specs.Slots.{AreIn}
@@ -16,8 +15,8 @@ use Rattle.verify_rules.specs.declared.setting.Setting.{Setting}
 use Rattle.verify_rules.specs.declared.setting.Spot.{Spot}
 use Rattle.verify_rules.specs.Rules.{Keeps, rules}
 use Rattle.verify_narrower.specs.Narrower.{IsFrame}
-use Rattle.verify_bodies.specs.Spots.{IsRow, IsSpot}
-use Rattle.verify_bodies.specs.Frames.{Table, HasFrame, IsEntry, IsAccepted, LeadsTo, IsSettingOf, IsVerified}
+use Rattle.verify_spots.specs.Spots.{IsRow, IsSpot}
+use Rattle.verify_spots.specs.Frames.{Table, HasFrame, IsEntry, IsAccepted, LeadsTo}
 
 -- a frame that comes to an instruction: what an instruction leaves that is accepted and leads there
 pub record Comes (s : Setting) (body : Body) (table : Table) (j : ℕ) (frame : List Slot) : Type 0 where
@@ -80,7 +79,3 @@ Passes s body n r = (table : Table) × IsRound s body n table × Below (length s
 abbrev pub Verifies : Setting → Body → Step (Unit {0}) At
 Verifies s body r =
     Then (Test ((s.rows.now ≡ []) → ⊥) (record { number = 0; rule = FallOff })) (λ _. Rounds (Passes s body)) r
-
--- no round tells a fault exactly where the method is verified
-abbrev pub RoundsTellFrames : Type 0
-RoundsTellFrames = (s : Setting) (body : Body) → IsSettingOf s body → IsNested body → Verifies s body (Ok tt) ↔ IsVerified s body

@@ -21,7 +21,7 @@ use Rattle.verify_rules.specs.declared.setting.Spot.{Spot}
 use Rattle.verify_rules.specs.Look.{named_ty}
 use Rattle.verify_rules.specs.Rules.{Accepts}
 use Rattle.verify_narrower.specs.Narrower.{IsFrame}
-use Rattle.verify_bodies.specs.Spots.{IsRow, IsFirstOf, HasRegion, IsSpot}
+use Rattle.verify_spots.specs.Spots.{IsRow, IsFirstOf, HasRegion, IsSpot}
 
 -- the setting is that of the body
 abbrev pub locals_meant : Option Named → List Ty

@@ -1,4 +1,0 @@
--- What a reader must believe: where instructions stand in a body, and what a method that is verified has.
-pub mod Spots
-pub mod Frames
-pub mod Rounds
