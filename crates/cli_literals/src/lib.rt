@@ -12,6 +12,8 @@ mod bad;
 mod fields;
 mod floats;
 mod takes;
+#[cfg(test)]
+mod tests;
 
 pub use bad::first_bad_constant;
 pub use fields::Fields;

@@ -7,5 +7,7 @@
 
 mod names;
 mod rows;
+#[cfg(test)]
+mod tests;
 
 pub use names::param_names;

@@ -7,6 +7,10 @@
 //! ```
 #![tactic(auto)]
 
+mod assembly;
 mod marks;
+#[cfg(test)]
+mod tests;
 
+pub use assembly::rows_of_assembly;
 pub use marks::reached_rows;

@@ -15,6 +15,8 @@ mod refusal;
 mod single;
 mod subject;
 mod table;
+#[cfg(test)]
+mod tests;
 
 pub use check::{check_signatures, sig_rows_fit_tokens};
 pub use laws::one_first_refusal;

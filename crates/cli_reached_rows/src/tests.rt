@@ -1,7 +1,7 @@
 // An assembly as a compiler wrote it: attributes alone name two of its types and two of its members.
 
+use crate::rows_of_assembly;
 use cli_metadata::Metadata;
-use cli_reached_rows::reached_rows;
 use cli_roots::own_tokens;
 use dc_base::Token;
 use std::test::Fail;
@@ -55,14 +55,11 @@ fn what_a_compiler_wrote_reaches(rt: HostRuntime) -> Result<(), Fail> {
     let Ok(metadata) = Metadata::of(&WHOLE) else {
         panic!(rt; "the metadata stands");
     };
-    let mut roots = own_tokens(alloc, &metadata)?;
     let own = [Token(0x0200_0000), Token(0x0100_0004), Token(0x0100_0001)];
-    assert_eq!(rt; roots.as_slice(), own.as_slice());
+    assert_eq!(rt; own_tokens(alloc, &metadata)?.as_slice(), own.as_slice());
     // What the two bodies name: a constructor, the field, and ToString.
-    for token in [0x0A00_0003, 0x0400_0001, 0x0A00_0002] {
-        roots.push(Token(token))?;
-    }
-    let marks = reached_rows(alloc, &metadata, roots.as_slice())?;
+    let named = [Token(0x0A00_0003), Token(0x0400_0001), Token(0x0A00_0002)];
+    let marks = rows_of_assembly(alloc, &metadata, &named)?;
     assert_eq!(rt;
         marks.as_slice(),
         [true, false, true, true, false, false, true, true, false].as_slice()
