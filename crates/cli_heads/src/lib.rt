@@ -20,8 +20,6 @@ mod maker;
 mod plain;
 mod read;
 mod row;
-#[cfg(test)]
-mod tests;
 mod trees;
 
 pub use constant::Constant;

@@ -21,8 +21,6 @@ mod marks;
 mod members;
 mod own;
 mod shape;
-#[cfg(test)]
-mod tests;
 mod types;
 
 pub use check::check_shapes;
