@@ -1,10 +1,8 @@
 // What is wrong with a token.
 
-ghost use Rattle.std.specs.Prelude.{◌≡◌, ◌<◌, ◌/◌, ◌%◌, ◌^◌, IfSome, IfNone};
-ghost use Rattle.std.specs.Bool.{OnTrue, OnFalse};
+ghost use Rattle.std.specs.Prelude.{◌≡◌, IfSome, IfNone};
 ghost use Rattle.cli_metadata.specs.declared.fault.MetaFault.{MetaFault as Fault};
-ghost use Rattle.cli_metadata.specs.Metadata.{rows_of};
-ghost use Rattle.cli_tokens.specs.Faults.{bad_index, table_of, IsPast, IsTokenFault};
+ghost use Rattle.cli_tokens.specs.Faults.{table_of, IsTokenFault};
 
 use cli_metadata::{MetaCause, MetaFault, Metadata, Table};
 use dc_base::Token;

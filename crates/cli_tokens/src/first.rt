@@ -1,6 +1,6 @@
 // The first of some tokens that stands for nothing.
 
-ghost use Rattle.std.specs.Prelude.{◌≡◌, ℕ, IfSome, IfNone};
+ghost use Rattle.std.specs.Prelude.{IfSome, IfNone};
 ghost use Rattle.cli_tokens.specs.Faults.{IsFirst, NoneFails, IsNext};
 
 use crate::least::{TokenFault, lesser};
