@@ -1,5 +1,5 @@
 -- The row that is found is one of its table's, and doesn't stand.
-use Rattle.std.proofs.Common.{◌≡◌, ℕ, ◌<◌, List, [], ◌∷◌, Ok, Err, sym, ap, subst, inl, inr}
+use Rattle.std.proofs.Common.{ℕ, ◌<◌, List, [], ◌∷◌, Err, sym, subst, inl, inr}
 use Rattle.dc_causes.specs.Causes.{InOrder}
 use Rattle.dc_causes.specs.Rows.{OfRow, OfRows}
 use Rattle.dc_causes.proofs.Chain.{then_fault}

@@ -1,5 +1,5 @@
 -- The first cell that says nothing: by the table's number, then by row, then in the order of the columns.
-use Rattle.std.specs.Prelude.{◌≡◌, ◌<◌, ℕ, ◌+◌, ◌^◌, List, [], ◌∷◌, Option, Some, None, Ok, Err}
+use Rattle.std.specs.Prelude.{◌≡◌, ◌<◌, ℕ, ◌+◌, ◌^◌, List, [], ◌∷◌, Some, None, Ok, Err}
 use Rattle.dc_causes.specs.Step.{Step}
 use Rattle.dc_causes.specs.Rows.{OfRows}
 use Rattle.cli_metadata.specs.Metadata.{Contents, rows_of}

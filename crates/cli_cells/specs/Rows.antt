@@ -1,5 +1,5 @@
 -- The cells of rows, each table at its own section of ECMA-335 II.22, and which rows are asked.
-use Rattle.std.specs.Prelude.{◌≡◌, ℕ, ◌+◌, ◌-◌, ◌*◌, ◌%◌, ◌^◌, ◌<◌, ◌==◌, Bool, true, false, List, [], ◌∷◌, slice_index_or, Option, Some, None, cond}
+use Rattle.std.specs.Prelude.{ℕ, ◌+◌, ◌-◌, ◌*◌, ◌%◌, ◌^◌, ◌==◌, Bool, true, false, List, [], ◌∷◌, slice_index_or, Option, Some, None, cond}
 use Rattle.dc_base.specs.declared.names.Token.{Token}
 use Rattle.cli_metadata.specs.declared.tables.Table.{Table}
 use Rattle.cli_metadata.specs.declared.tables.Table.TheVariants as tables
@@ -14,7 +14,6 @@ use Rattle.cli_cells.specs.declared.cell.Cell.{Cell}
 use Rattle.cli_cells.specs.declared.cell.Cell.TheVariants.{Text, Blob, Row, Coded, List as ListCell}
 use Rattle.cli_cells.specs.declared.table.CellTable.{CellTable}
 use Rattle.cli_cells.specs.declared.table.CellTable.TheVariants.{TypeRef, TypeDef, Field, MethodDef, Param, InterfaceImpl, MemberRef, Constant, StandAloneSig, PropertyMap, Property, MethodSemantics, MethodImpl, TypeSpec, Assembly, NestedClass}
-use Rattle.cli_cells.specs.Cells.{IsFirstFault}
 
 -- metadata, and for each row that has a number whether it is reached
 pub record Subject : Type 0 where

@@ -1,5 +1,5 @@
 -- Explicit implementations (ECMA-335 II.22.27).
-use Rattle.std.specs.Prelude.{◌≡◌, ◌≤◌, ℕ, ◌+◌, ◌-◌, ◌/◌, ◌%◌, ◌^◌, List, length, Option, Some, None, slice_get}
+use Rattle.std.specs.Prelude.{◌≡◌, ◌≤◌, ℕ, ◌+◌, ◌-◌, ◌/◌, ◌%◌, ◌^◌, List, length, Option, Some, slice_get}
 use Rattle.dc_base.specs.declared.names.Token.{Token}
 use Rattle.dc_base.specs.declared.names.MemberId.{MemberId}
 use Rattle.cli_metadata.specs.declared.tables.Table.TheVariants as tables

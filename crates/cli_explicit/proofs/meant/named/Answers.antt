@@ -1,4 +1,3 @@
-use Rattle.std.proofs.Common.{arith}
 use Rattle.cli_explicit.proofs.Written.{none_referred}
 use Rattle.cli_explicit.proofs.meant.named.Goals as goal
 
