@@ -4,12 +4,6 @@ pub mod Basics
 pub mod Bind
 pub mod Either
 pub mod Limited
--- example::reading
 pub mod Turns
--- example::one_reading
 pub mod Whole
 pub mod Deeper
--- example::one_reading, example::read
-pub mod Differences
--- example::read
-pub mod Readings

@@ -5,4 +5,3 @@ pub mod Exact
 pub mod Reads
 pub mod Whole
 pub mod Levels
-pub mod Differences

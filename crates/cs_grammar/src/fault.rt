@@ -21,10 +21,3 @@ impl From<Fault> for Or<Fault> {
         Or::Fault(fault)
     }
 }
-
-/// Why a list of tokens makes up no value, and how many of its tokens are left from the fault on.
-#[derive(Clone, Copy, Debug, PartialEq, Eq)]
-pub struct Stop {
-    pub fault: Fault,
-    pub left: usize,
-}

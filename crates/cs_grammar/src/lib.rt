@@ -53,16 +53,6 @@
 //! [`example`] is all of this at its smallest.
 #![tactic(auto)]
 
-mod cursor;
-pub mod example;
 mod fault;
-mod kinded;
-mod reader;
 
-pub use cursor::Cursor;
-pub use fault::{Fault, Stop};
-pub use kinded::Kinded;
-pub use reader::{begins, expect, finish, limit, take_one};
-
-#[cfg(test)]
-mod tests;
+pub use fault::Fault;

@@ -8,7 +8,7 @@ use Rattle.std.proofs.lemmas.Bool.Decides.{nat_tests}
 use Rattle.std.proofs.lemmas.List.{append_assoc}
 use Rattle.std.proofs.lemmas.Str.{chars-append, encodes-chars, length-le-encodes, IsUtf8-append, chars-nil}
 use Rattle.cs_token.specs.Cuts.{place_after, place_of}
-use Rattle.cs_lex.specs.Places.{next_place, HasRoom}
+use Rattle.cs_lex.specs.Places.{next_place, HasRoom, At}
 
 room_by : (b : Bool) (bound line column n m : ℕ) → HasRoom bound line column n → m < n
     → HasRoom bound (cond {A = ℕ × ℕ} b (line + 1, 1) (line, column + 1)).0 (cond {A = ℕ × ℕ} b (line + 1, 1) (line, column + 1)).1 m
@@ -35,14 +35,6 @@ take_front : (xs ys : List ℕ) → take (length (xs ++ ys) - length ys) (xs ++ 
 take_front xs ys =
     let size : length (xs ++ ys) - length ys ≡ length xs = omega (arith, length-append xs ys) in
     rw size (take-append_seam xs ys)
-
--- the place at which a rest of a text stands
-pub record At (whole left : List ℕ) (place : ℕ × ℕ) : Type 0 where
-  pub front : List ℕ
-  pub read : whole ≡ front ++ left
-  pub utf8 : IsUtf8 front
-  pub placed : place ≡ place_after (1, 1) (chars front)
-  pub room : HasRoom (2 ^ 32) place.0 place.1 (length left)
 
 few_chars : (bs : List ℕ) → IsUtf8 bs → length (chars bs) ≤ length bs
 few_chars bs u =

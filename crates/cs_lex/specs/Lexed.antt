@@ -1,8 +1,6 @@
 -- A text as the list of its tokens, or the first place where none stands (ECMA-334, 6.3 and 6.4).
 use Rattle.std.specs.Prelude.{◌≡◌, ◌↔◌, ℕ, List, [], take, IsTrue}
 use Rattle.std.specs.Str.{chars, IsValidUpTo}
-use Rattle.dc_base.specs.declared.failure.Or.{Or}
-use Rattle.dc_base.specs.declared.failure.Or.TheVariants.{NoMemory, Fault}
 use Rattle.cs_token.specs.declared.tokens.Token.{Token}
 use Rattle.cs_token.specs.Cuts.{place_after, place_of, AreTokens, AreTokensUpTo}
 use Rattle.cs_lex.specs.declared.cuts.Tokens.{Tokens}
@@ -13,9 +11,9 @@ use Rattle.cs_lex.specs.declared.whole.LexFault.{LexFault}
 pub record IsCut (text : List ℕ) (cut : Tokens) : Type 0 where
   pub rest : List ℕ
   pub cuts : AreTokensUpTo text cut.tokens rest
-  pub line : cut.line ≡ (place_of text rest).0
-  pub column : cut.column ≡ (place_of text rest).1
-  pub whole : IsTrue cut.whole ↔ (rest ≡ [])
+  pub line : cut.end.line ≡ (place_of text rest).0
+  pub column : cut.end.column ≡ (place_of text rest).1
+  pub whole : IsTrue cut.end.whole ↔ (rest ≡ [])
 
 -- the tokens of a whole text, and the place of its end
 pub record IsLexed (text : List ℕ) (lexed : Lexed) : Type 0 where
@@ -34,11 +32,6 @@ pub record Stops (text : List ℕ) (fault : LexFault) : Type 0 where
   pub cuts : AreTokensUpTo text tokens rest
   pub more : rest ≡ [] → ⊥
   pub placed : IsPlace fault (place_of text rest)
-
--- a fault is that place; want of memory is free
-abbrev pub TellsStop : List ℕ → Or LexFault → Type 0
-TellsStop text NoMemory = Unit {0}
-TellsStop text (Fault fault) = Stops text fault
 
 -- The place of the first byte that is part of no character: that behind the longest front which is text in UTF-8.
 pub record IsBroken (bytes : List ℕ) (fault : LexFault) : Type 0 where

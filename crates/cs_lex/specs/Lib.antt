@@ -2,3 +2,4 @@
 pub mod Lexed
 -- Inner facts, which only serve proofs.
 pub mod Places
+pub mod Cursors

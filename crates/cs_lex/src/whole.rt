@@ -2,12 +2,9 @@
 
 ghost use Rattle.std.specs.Prelude.{◌≤◌, ◌^◌, length, IfOk, IfErr};
 ghost use Rattle.std.specs.Str.{chars};
-ghost use Rattle.cs_lex.specs.Lexed.{IsLexed, TellsStop, HasOneAnswer};
+ghost use Rattle.cs_lex.specs.Lexed.{IsLexed, Stops, HasOneAnswer};
 
-use crate::{Tokens, cut};
-use cs_token::Token;
-use dc_base::{Or, Seq};
-use std::alloc::Global;
+use crate::{Cursor, End, Tokens, cut};
 use thiserror::Error;
 
 /// The first place where no token stands.
@@ -21,23 +18,23 @@ pub struct LexFault {
 /// The tokens of a text, and the place of its end.
 #[derive(Drop)]
 pub struct Lexed<'a> {
-    pub tokens: Seq<Token<'a>>,
+    pub tokens: Cursor<'a>,
     pub line: usize,
     pub column: usize,
 }
 
 /// Cuts a whole text into tokens.
-pub fn lex<'a>(alloc: Global, source: &'a str) -> Result<Lexed<'a>, Or<LexFault>>
+pub fn lex(source: &str) -> Result<Lexed<'_>, LexFault>
     requires { length source.now ≤ 2 ^ 31 }
     ensures ok { IfOk result (λ lexed. IsLexed (chars source.now) lexed) }
-    ensures fault { IfErr result (TellsStop (chars source.now)) }
+    ensures fault { IfErr result (Stops (chars source.now)) }
 {
-    let Tokens {
-        tokens,
+    let Tokens { tokens, end } = cut(source);
+    let End {
         line,
         column,
         whole,
-    } = cut(alloc, source)?;
+    } = end;
     if whole {
         Ok(Lexed {
             tokens,
@@ -45,7 +42,7 @@ pub fn lex<'a>(alloc: Global, source: &'a str) -> Result<Lexed<'a>, Or<LexFault>
             column,
         })
     } else {
-        Err(Or::Fault(LexFault { line, column }))
+        Err(LexFault { line, column })
     }
 }
 

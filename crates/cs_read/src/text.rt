@@ -6,11 +6,11 @@ ghost use Rattle.cs_read_calls.specs.Asked.{Asked};
 ghost use Rattle.cs_read_texts.specs.Texts.{within, beyond, IsRead};
 ghost use Rattle.cs_read.specs.Depths.{text_grammar, wider_grammar};
 
-use cs_grammar::{Cursor, Fault};
+use cs_grammar::Fault;
+use cs_lex::Cursor;
 use cs_read_calls::{Ask, Depth, Got, Level};
 use cs_read_levels::read_below;
 use cs_read_texts::{ReadFault, unit_of_text};
-use cs_token::Token;
 use cs_tree::Unit;
 use dc_base::Or;
 use std::alloc::Global;
@@ -37,7 +37,7 @@ fn read_within(alloc: Global, source: &str, at: Depth, nesting: u16) -> Result<U
 {
     let level = Level {
         at,
-        read: |alloc: Global, tokens: &mut Cursor<Token>, ask: Ask| -> Result<Got, Or<Fault>>
+        read: |alloc: Global, tokens: &mut Cursor, ask: Ask| -> Result<Got, Or<Fault>>
             ensures { Asked at ask tokens.old result tokens.new }
         { read_below(alloc, tokens, at, ask) },
     };

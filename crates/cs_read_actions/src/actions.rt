@@ -9,20 +9,20 @@ use crate::kinds::COMPOUND;
 use crate::leaves::pairs;
 use crate::nodes::{assign, compound_assign, declare};
 use crate::place::{Place, expression};
-use cs_grammar::{Cursor, Fault, begins, expect};
+use cs_grammar::Fault;
+use cs_lex::{Cursor, begins, expect};
 use cs_productions::Measured;
 use cs_read_types::kinds::{EQUALS, SEMICOLON};
 use cs_read_types::{any_name, operator, type_of_keyword};
-use cs_token::Token;
 use cs_tree::{Action, Syntax, TypeForm};
 use dc_base::Or;
 use std::alloc::Global;
 
 /// A declaration, behind its type.
-pub fn declared<F, G: Fn(Global, &mut Cursor<Token>) -> Result<Measured, Or<Fault>>>(
+pub fn declared<F, G: Fn(Global, &mut Cursor) -> Result<Measured, Or<Fault>>>(
     here: &Place<F, G>,
     alloc: Global,
-    tokens: &mut Cursor<Token>,
+    tokens: &mut Cursor,
     ty: TypeForm,
 ) -> Result<Syntax, Or<Fault>>
     requires whole_callable { G.IsAlwaysCallable here.now.whole }
@@ -37,10 +37,10 @@ pub fn declared<F, G: Fn(Global, &mut Cursor<Token>) -> Result<Measured, Or<Faul
 }
 
 /// A declaration that begins with a keyword.
-pub fn keyword_declared<F, G: Fn(Global, &mut Cursor<Token>) -> Result<Measured, Or<Fault>>>(
+pub fn keyword_declared<F, G: Fn(Global, &mut Cursor) -> Result<Measured, Or<Fault>>>(
     here: &Place<F, G>,
     alloc: Global,
-    tokens: &mut Cursor<Token>,
+    tokens: &mut Cursor,
 ) -> Result<Syntax, Or<Fault>>
     requires whole_callable { G.IsAlwaysCallable here.now.whole }
     requires whole_exact { (alloc : _) (tokens : _) (result : _) (after : _) → G.post here.now.whole alloc tokens result after → WholeRead here.now.level.at tokens.now result after.now }
@@ -50,10 +50,10 @@ pub fn keyword_declared<F, G: Fn(Global, &mut Cursor<Token>) -> Result<Measured,
     declared(here, alloc, tokens, ty)
 }
 
-fn assigned<F, G: Fn(Global, &mut Cursor<Token>) -> Result<Measured, Or<Fault>>>(
+fn assigned<F, G: Fn(Global, &mut Cursor) -> Result<Measured, Or<Fault>>>(
     here: &Place<F, G>,
     alloc: Global,
-    tokens: &mut Cursor<Token>,
+    tokens: &mut Cursor,
     place: Measured,
 ) -> Result<Action, Or<Fault>>
     requires whole_callable { G.IsAlwaysCallable here.now.whole }
@@ -65,10 +65,10 @@ fn assigned<F, G: Fn(Global, &mut Cursor<Token>) -> Result<Measured, Or<Fault>>>
     Ok(assign(place, value))
 }
 
-fn compounded<F, G: Fn(Global, &mut Cursor<Token>) -> Result<Measured, Or<Fault>>>(
+fn compounded<F, G: Fn(Global, &mut Cursor) -> Result<Measured, Or<Fault>>>(
     here: &Place<F, G>,
     alloc: Global,
-    tokens: &mut Cursor<Token>,
+    tokens: &mut Cursor,
     place: Measured,
 ) -> Result<Action, Or<Fault>>
     requires whole_callable { G.IsAlwaysCallable here.now.whole }
@@ -81,10 +81,10 @@ fn compounded<F, G: Fn(Global, &mut Cursor<Token>) -> Result<Measured, Or<Fault>
 }
 
 /// An assignment, behind its place.
-pub fn set_to<F, G: Fn(Global, &mut Cursor<Token>) -> Result<Measured, Or<Fault>>>(
+pub fn set_to<F, G: Fn(Global, &mut Cursor) -> Result<Measured, Or<Fault>>>(
     here: &Place<F, G>,
     alloc: Global,
-    tokens: &mut Cursor<Token>,
+    tokens: &mut Cursor,
     place: Measured,
 ) -> Result<Action, Or<Fault>>
     requires whole_callable { G.IsAlwaysCallable here.now.whole }

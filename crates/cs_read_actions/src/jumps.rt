@@ -7,17 +7,17 @@ ghost use Rattle.cs_read_actions.specs.Place.{WholeRead};
 
 use crate::kinds::{KW_BREAK, KW_CONTINUE, KW_GOTO, KW_RETURN, KW_THROW};
 use crate::place::{Place, expression};
-use cs_grammar::{Cursor, Fault, begins, expect};
+use cs_grammar::Fault;
+use cs_lex::{Cursor, begins, expect};
 use cs_productions::Measured;
 use cs_read_types::kinds::{COLON, EXPRESSION, SEMICOLON};
 use cs_read_types::{name_text, place};
-use cs_token::Token;
 use cs_tree::{Form, Spot, Syntax};
 use dc_base::{Or, Text};
 use std::alloc::Global;
 
 /// `name: ;`, behind the name
-pub fn labelled(tokens: &mut Cursor<Token>, spot: Spot, label: Text) -> Result<Syntax, Or<Fault>>
+pub fn labelled(tokens: &mut Cursor, spot: Spot, label: Text) -> Result<Syntax, Or<Fault>>
     ensures { Reads ((labelled_of spot label).reads tokens.old) result tokens.new }
 {
     expect(tokens, COLON)?;
@@ -25,10 +25,10 @@ pub fn labelled(tokens: &mut Cursor<Token>, spot: Spot, label: Text) -> Result<S
     Ok(Syntax::Label { spot, label })
 }
 
-fn value_given<F, G: Fn(Global, &mut Cursor<Token>) -> Result<Measured, Or<Fault>>>(
+fn value_given<F, G: Fn(Global, &mut Cursor) -> Result<Measured, Or<Fault>>>(
     here: &Place<F, G>,
     alloc: Global,
-    tokens: &mut Cursor<Token>,
+    tokens: &mut Cursor,
 ) -> Result<Option<Form>, Or<Fault>>
     requires whole_callable { G.IsAlwaysCallable here.now.whole }
     requires whole_exact { (alloc : _) (tokens : _) (result : _) (after : _) → G.post here.now.whole alloc tokens result after → WholeRead here.now.level.at tokens.now result after.now }
@@ -39,10 +39,10 @@ fn value_given<F, G: Fn(Global, &mut Cursor<Token>) -> Result<Measured, Or<Fault
     Ok(Some(value.form))
 }
 
-fn value<F, G: Fn(Global, &mut Cursor<Token>) -> Result<Measured, Or<Fault>>>(
+fn value<F, G: Fn(Global, &mut Cursor) -> Result<Measured, Or<Fault>>>(
     here: &Place<F, G>,
     alloc: Global,
-    tokens: &mut Cursor<Token>,
+    tokens: &mut Cursor,
 ) -> Result<Option<Form>, Or<Fault>>
     requires whole_callable { G.IsAlwaysCallable here.now.whole }
     requires whole_exact { (alloc : _) (tokens : _) (result : _) (after : _) → G.post here.now.whole alloc tokens result after → WholeRead here.now.level.at tokens.now result after.now }
@@ -55,7 +55,7 @@ fn value<F, G: Fn(Global, &mut Cursor<Token>) -> Result<Measured, Or<Fault>>>(
     Ok(None)
 }
 
-fn of_goto(alloc: Global, tokens: &mut Cursor<Token>) -> Result<Syntax, Or<Fault>>
+fn of_goto(alloc: Global, tokens: &mut Cursor) -> Result<Syntax, Or<Fault>>
     ensures { Reads (of_goto_of.reads tokens.old) result tokens.new }
 {
     let spot = place(tokens, KW_GOTO)?;
@@ -64,7 +64,7 @@ fn of_goto(alloc: Global, tokens: &mut Cursor<Token>) -> Result<Syntax, Or<Fault
     Ok(Syntax::Goto { spot, label })
 }
 
-fn of_break(tokens: &mut Cursor<Token>) -> Result<Syntax, Or<Fault>>
+fn of_break(tokens: &mut Cursor) -> Result<Syntax, Or<Fault>>
     ensures { Reads (of_break_of.reads tokens.old) result tokens.new }
 {
     let spot = place(tokens, KW_BREAK)?;
@@ -72,7 +72,7 @@ fn of_break(tokens: &mut Cursor<Token>) -> Result<Syntax, Or<Fault>>
     Ok(Syntax::Break { spot })
 }
 
-fn of_continue(tokens: &mut Cursor<Token>) -> Result<Syntax, Or<Fault>>
+fn of_continue(tokens: &mut Cursor) -> Result<Syntax, Or<Fault>>
     ensures { Reads (of_continue_of.reads tokens.old) result tokens.new }
 {
     let spot = place(tokens, KW_CONTINUE)?;
@@ -80,10 +80,10 @@ fn of_continue(tokens: &mut Cursor<Token>) -> Result<Syntax, Or<Fault>>
     Ok(Syntax::Continue { spot })
 }
 
-fn of_return<F, G: Fn(Global, &mut Cursor<Token>) -> Result<Measured, Or<Fault>>>(
+fn of_return<F, G: Fn(Global, &mut Cursor) -> Result<Measured, Or<Fault>>>(
     here: &Place<F, G>,
     alloc: Global,
-    tokens: &mut Cursor<Token>,
+    tokens: &mut Cursor,
 ) -> Result<Syntax, Or<Fault>>
     requires whole_callable { G.IsAlwaysCallable here.now.whole }
     requires whole_exact { (alloc : _) (tokens : _) (result : _) (after : _) → G.post here.now.whole alloc tokens result after → WholeRead here.now.level.at tokens.now result after.now }
@@ -94,10 +94,10 @@ fn of_return<F, G: Fn(Global, &mut Cursor<Token>) -> Result<Measured, Or<Fault>>
     Ok(Syntax::Return { spot, value })
 }
 
-fn of_throw<F, G: Fn(Global, &mut Cursor<Token>) -> Result<Measured, Or<Fault>>>(
+fn of_throw<F, G: Fn(Global, &mut Cursor) -> Result<Measured, Or<Fault>>>(
     here: &Place<F, G>,
     alloc: Global,
-    tokens: &mut Cursor<Token>,
+    tokens: &mut Cursor,
 ) -> Result<Syntax, Or<Fault>>
     requires whole_callable { G.IsAlwaysCallable here.now.whole }
     requires whole_exact { (alloc : _) (tokens : _) (result : _) (after : _) → G.post here.now.whole alloc tokens result after → WholeRead here.now.level.at tokens.now result after.now }
@@ -109,10 +109,10 @@ fn of_throw<F, G: Fn(Global, &mut Cursor<Token>) -> Result<Measured, Or<Fault>>>
 }
 
 /// `goto L;`, `break;`, `continue;`, `return a;`, `throw a;`
-pub fn jump<F, G: Fn(Global, &mut Cursor<Token>) -> Result<Measured, Or<Fault>>>(
+pub fn jump<F, G: Fn(Global, &mut Cursor) -> Result<Measured, Or<Fault>>>(
     here: &Place<F, G>,
     alloc: Global,
-    tokens: &mut Cursor<Token>,
+    tokens: &mut Cursor,
 ) -> Result<Syntax, Or<Fault>>
     requires whole_callable { G.IsAlwaysCallable here.now.whole }
     requires whole_exact { (alloc : _) (tokens : _) (result : _) (after : _) → G.post here.now.whole alloc tokens result after → WholeRead here.now.level.at tokens.now result after.now }

@@ -10,22 +10,22 @@ ghost use Rattle.cs_read_actions.specs.Place.{WholeRead};
 use crate::actions::declared;
 use crate::leaves::pairs;
 use crate::place::Place;
-use cs_grammar::{Cursor, Fault, begins, expect};
+use cs_grammar::Fault;
+use cs_lex::{Cursor, begins, expect};
 use cs_productions::Measured;
 use cs_read_calls::{Ask, Got, Level, leaf};
 use cs_read_primaries::called_path;
 use cs_read_types::kinds::{PAREN, UNBRACKET};
 use cs_read_types::ranks;
-use cs_token::Token;
 use cs_tree::{Form, Spot, Syntax, TypeForm, TypeName};
 use dc_base::{Or, Seq, Text};
 use std::alloc::Global;
 
 /// A declaration behind the first `[` of its array type, whose element is this.
-pub fn array_declared<F, G: Fn(Global, &mut Cursor<Token>) -> Result<Measured, Or<Fault>>>(
+pub fn array_declared<F, G: Fn(Global, &mut Cursor) -> Result<Measured, Or<Fault>>>(
     here: &Place<F, G>,
     alloc: Global,
-    tokens: &mut Cursor<Token>,
+    tokens: &mut Cursor,
     element: TypeForm,
 ) -> Result<Syntax, Or<Fault>>
     requires whole_callable { G.IsAlwaysCallable here.now.whole }
@@ -54,10 +54,10 @@ pub fn global_type(spot: Spot, path: Seq<Text>) -> TypeForm
 }
 
 /// A path, or its call.
-pub fn called_or_alone<F: Fn(Global, &mut Cursor<Token>, Ask) -> Result<Got, Or<Fault>>>(
+pub fn called_or_alone<F: Fn(Global, &mut Cursor, Ask) -> Result<Got, Or<Fault>>>(
     level: &Level<F>,
     alloc: Global,
-    tokens: &mut Cursor<Token>,
+    tokens: &mut Cursor,
     spot: Spot,
     path: Seq<Text>,
 ) -> Result<Measured, Or<Fault>>

@@ -5,10 +5,10 @@ ghost use Rattle.cs_statements.specs.Jumps.{expression as expression_of};
 ghost use Rattle.cs_read_calls.specs.Asked.{inner_of};
 ghost use Rattle.cs_read_actions.specs.Place.{WholeRead};
 
-use cs_grammar::{Cursor, Fault};
+use cs_grammar::Fault;
+use cs_lex::Cursor;
 use cs_productions::Measured;
 use cs_read_calls::Level;
-use cs_token::Token;
 use dc_base::Or;
 use std::alloc::Global;
 
@@ -20,10 +20,10 @@ pub struct Place<F, G> {
 }
 
 /// Reads an expression.
-pub fn expression<F, G: Fn(Global, &mut Cursor<Token>) -> Result<Measured, Or<Fault>>>(
+pub fn expression<F, G: Fn(Global, &mut Cursor) -> Result<Measured, Or<Fault>>>(
     place: &Place<F, G>,
     alloc: Global,
-    tokens: &mut Cursor<Token>,
+    tokens: &mut Cursor,
 ) -> Result<Measured, Or<Fault>>
     requires whole_callable { G.IsAlwaysCallable place.now.whole }
     requires whole_exact { (alloc : _) (tokens : _) (result : _) (after : _) → G.post place.now.whole alloc tokens result after → WholeRead place.now.level.at tokens.now result after.now }

@@ -11,20 +11,20 @@ ghost use Rattle.cs_statements.specs.Actions.{parenthesized as parenthesized_of,
 ghost use Rattle.cs_read_calls.specs.Asked.{inner_of, Asked};
 
 use crate::kinds::{PLAIN_NAMES, UNNAMED};
-use cs_grammar::{Cursor, Fault, begins, expect};
+use cs_grammar::Fault;
+use cs_lex::{Cursor, begins, expect};
 use cs_productions::{Measured, Part};
 use cs_read_calls::{Ask, Got, Level, raised};
 use cs_read_primaries::{of_base, of_checked, of_default, of_global, of_new};
 use cs_read_types::kinds::{COUNTED, GLOBAL, KW_BASE, KW_DEFAULT, KW_NEW, PAREN, UNPAREN};
 use cs_read_types::{place, simple};
-use cs_token::Token;
 use dc_base::Or;
 use std::alloc::Global;
 
 /// Takes a name, a literal or `this`, of these kinds.
 fn simple_among(
     alloc: Global,
-    tokens: &mut Cursor<Token>,
+    tokens: &mut Cursor,
     kinds: &[u16],
 ) -> Result<Measured, Or<Fault>>
     requires { subset kinds.now simple_kinds ≡ true }
@@ -36,10 +36,10 @@ fn simple_among(
     simple(alloc, tokens)
 }
 
-fn parenthesized<F: Fn(Global, &mut Cursor<Token>, Ask) -> Result<Got, Or<Fault>>>(
+fn parenthesized<F: Fn(Global, &mut Cursor, Ask) -> Result<Got, Or<Fault>>>(
     level: &Level<F>,
     alloc: Global,
-    tokens: &mut Cursor<Token>,
+    tokens: &mut Cursor,
 ) -> Result<Measured, Or<Fault>>
     requires callable { F.IsAlwaysCallable level.now.read }
     requires exact { (alloc : _) (tokens : _) (ask : _) (result : _) (after : _) → F.post level.now.read alloc tokens ask result after → Asked level.now.at ask tokens.now result after.now }
@@ -53,10 +53,10 @@ fn parenthesized<F: Fn(Global, &mut Cursor<Token>, Ask) -> Result<Got, Or<Fault>
     level.postfixes(alloc, tokens, raised(height, form, spot))
 }
 
-fn counted_primary<F: Fn(Global, &mut Cursor<Token>, Ask) -> Result<Got, Or<Fault>>>(
+fn counted_primary<F: Fn(Global, &mut Cursor, Ask) -> Result<Got, Or<Fault>>>(
     level: &Level<F>,
     alloc: Global,
-    tokens: &mut Cursor<Token>,
+    tokens: &mut Cursor,
 ) -> Result<Measured, Or<Fault>>
     requires callable { F.IsAlwaysCallable level.now.read }
     requires exact { (alloc : _) (tokens : _) (ask : _) (result : _) (after : _) → F.post level.now.read alloc tokens ask result after → Asked level.now.at ask tokens.now result after.now }
@@ -74,10 +74,10 @@ fn counted_primary<F: Fn(Global, &mut Cursor<Token>, Ask) -> Result<Got, Or<Faul
     of_checked(level, alloc, tokens)
 }
 
-fn of_unnamed<F: Fn(Global, &mut Cursor<Token>, Ask) -> Result<Got, Or<Fault>>>(
+fn of_unnamed<F: Fn(Global, &mut Cursor, Ask) -> Result<Got, Or<Fault>>>(
     level: &Level<F>,
     alloc: Global,
-    tokens: &mut Cursor<Token>,
+    tokens: &mut Cursor,
 ) -> Result<Measured, Or<Fault>>
     requires callable { F.IsAlwaysCallable level.now.read }
     requires exact { (alloc : _) (tokens : _) (ask : _) (result : _) (after : _) → F.post level.now.read alloc tokens ask result after → Asked level.now.at ask tokens.now result after.now }
@@ -87,10 +87,10 @@ fn of_unnamed<F: Fn(Global, &mut Cursor<Token>, Ask) -> Result<Got, Or<Fault>>>(
     level.postfixes(alloc, tokens, leaf)
 }
 
-fn uncounted_primary<F: Fn(Global, &mut Cursor<Token>, Ask) -> Result<Got, Or<Fault>>>(
+fn uncounted_primary<F: Fn(Global, &mut Cursor, Ask) -> Result<Got, Or<Fault>>>(
     level: &Level<F>,
     alloc: Global,
-    tokens: &mut Cursor<Token>,
+    tokens: &mut Cursor,
 ) -> Result<Measured, Or<Fault>>
     requires callable { F.IsAlwaysCallable level.now.read }
     requires exact { (alloc : _) (tokens : _) (ask : _) (result : _) (after : _) → F.post level.now.read alloc tokens ask result after → Asked level.now.at ask tokens.now result after.now }
@@ -103,10 +103,10 @@ fn uncounted_primary<F: Fn(Global, &mut Cursor<Token>, Ask) -> Result<Got, Or<Fa
 }
 
 /// A place or a call that begins with no name.
-pub fn unnamed_primary<F: Fn(Global, &mut Cursor<Token>, Ask) -> Result<Got, Or<Fault>>>(
+pub fn unnamed_primary<F: Fn(Global, &mut Cursor, Ask) -> Result<Got, Or<Fault>>>(
     level: &Level<F>,
     alloc: Global,
-    tokens: &mut Cursor<Token>,
+    tokens: &mut Cursor,
 ) -> Result<Measured, Or<Fault>>
     requires callable { F.IsAlwaysCallable level.now.read }
     requires exact { (alloc : _) (tokens : _) (ask : _) (result : _) (after : _) → F.post level.now.read alloc tokens ask result after → Asked level.now.at ask tokens.now result after.now }
@@ -121,10 +121,10 @@ pub fn unnamed_primary<F: Fn(Global, &mut Cursor<Token>, Ask) -> Result<Got, Or<
     counted_primary(level, alloc, tokens)
 }
 
-fn of_named<F: Fn(Global, &mut Cursor<Token>, Ask) -> Result<Got, Or<Fault>>>(
+fn of_named<F: Fn(Global, &mut Cursor, Ask) -> Result<Got, Or<Fault>>>(
     level: &Level<F>,
     alloc: Global,
-    tokens: &mut Cursor<Token>,
+    tokens: &mut Cursor,
 ) -> Result<Measured, Or<Fault>>
     requires callable { F.IsAlwaysCallable level.now.read }
     requires exact { (alloc : _) (tokens : _) (ask : _) (result : _) (after : _) → F.post level.now.read alloc tokens ask result after → Asked level.now.at ask tokens.now result after.now }
@@ -135,10 +135,10 @@ fn of_named<F: Fn(Global, &mut Cursor<Token>, Ask) -> Result<Got, Or<Fault>>>(
 }
 
 /// A place or a call.
-pub fn primary<F: Fn(Global, &mut Cursor<Token>, Ask) -> Result<Got, Or<Fault>>>(
+pub fn primary<F: Fn(Global, &mut Cursor, Ask) -> Result<Got, Or<Fault>>>(
     level: &Level<F>,
     alloc: Global,
-    tokens: &mut Cursor<Token>,
+    tokens: &mut Cursor,
 ) -> Result<Measured, Or<Fault>>
     requires callable { F.IsAlwaysCallable level.now.read }
     requires exact { (alloc : _) (tokens : _) (ask : _) (result : _) (after : _) → F.post level.now.read alloc tokens ask result after → Asked level.now.at ask tokens.now result after.now }

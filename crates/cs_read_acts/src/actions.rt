@@ -12,7 +12,8 @@ ghost use Rattle.cs_read_calls.specs.Asked.{inner_of, Asked};
 ghost use Rattle.cs_read_actions.specs.Place.{WholeRead};
 ghost use Rattle.cs_read_acts.specs.Acts.{ended_by, act_as};
 
-use cs_grammar::{Cursor, Fault, begins, expect, take_one};
+use cs_grammar::Fault;
+use cs_lex::{Cursor, begins, expect, take_one};
 use cs_productions::Measured;
 use cs_read_actions::kinds::{ASSIGNMENT, PLAIN_NAMES};
 use cs_read_actions::{Place, invoke, labelled, named, set_to, unnamed_primary};
@@ -25,7 +26,7 @@ use dc_base::{NoMemory, Or};
 use std::alloc::Global;
 
 /// The sign behind what was read, which goes where it isn't there.
-fn ended<A: Drop>(tokens: &mut Cursor<Token>, end: u16, read: A) -> Result<A, Or<Fault>>
+fn ended<A: Drop>(tokens: &mut Cursor, end: u16, read: A) -> Result<A, Or<Fault>>
     ensures { Reads ((ended_by end read).reads tokens.old) result tokens.new }
 {
     expect(tokens, end)?;
@@ -33,10 +34,10 @@ fn ended<A: Drop>(tokens: &mut Cursor<Token>, end: u16, read: A) -> Result<A, Or
 }
 
 /// What is done with a call.
-fn called<F, G: Fn(Global, &mut Cursor<Token>) -> Result<Measured, Or<Fault>>>(
+fn called<F, G: Fn(Global, &mut Cursor) -> Result<Measured, Or<Fault>>>(
     here: &Place<F, G>,
     alloc: Global,
-    tokens: &mut Cursor<Token>,
+    tokens: &mut Cursor,
     call: Measured,
 ) -> Result<Action, Or<Fault>>
     requires whole_callable { G.IsAlwaysCallable here.now.whole }
@@ -49,10 +50,10 @@ fn called<F, G: Fn(Global, &mut Cursor<Token>) -> Result<Measured, Or<Fault>>>(
     Ok(invoke(call))
 }
 
-fn call_to<F, G: Fn(Global, &mut Cursor<Token>) -> Result<Measured, Or<Fault>>>(
+fn call_to<F, G: Fn(Global, &mut Cursor) -> Result<Measured, Or<Fault>>>(
     here: &Place<F, G>,
     alloc: Global,
-    tokens: &mut Cursor<Token>,
+    tokens: &mut Cursor,
     end: u16,
     call: Measured,
 ) -> Result<Action, Or<Fault>>
@@ -64,10 +65,10 @@ fn call_to<F, G: Fn(Global, &mut Cursor<Token>) -> Result<Measured, Or<Fault>>>(
     ended(tokens, end, action)
 }
 
-fn place_to<F, G: Fn(Global, &mut Cursor<Token>) -> Result<Measured, Or<Fault>>>(
+fn place_to<F, G: Fn(Global, &mut Cursor) -> Result<Measured, Or<Fault>>>(
     here: &Place<F, G>,
     alloc: Global,
-    tokens: &mut Cursor<Token>,
+    tokens: &mut Cursor,
     end: u16,
     place: Measured,
 ) -> Result<Action, Or<Fault>>
@@ -80,10 +81,10 @@ fn place_to<F, G: Fn(Global, &mut Cursor<Token>) -> Result<Measured, Or<Fault>>>
 }
 
 /// What is done to a place or with a call, and the sign behind it.
-pub fn action_to<F, G: Fn(Global, &mut Cursor<Token>) -> Result<Measured, Or<Fault>>>(
+pub fn action_to<F, G: Fn(Global, &mut Cursor) -> Result<Measured, Or<Fault>>>(
     here: &Place<F, G>,
     alloc: Global,
-    tokens: &mut Cursor<Token>,
+    tokens: &mut Cursor,
     end: u16,
     place: Measured,
 ) -> Result<Action, Or<Fault>>
@@ -97,10 +98,10 @@ pub fn action_to<F, G: Fn(Global, &mut Cursor<Token>) -> Result<Measured, Or<Fau
     place_to(here, alloc, tokens, end, place)
 }
 
-fn act_with<F, G: Fn(Global, &mut Cursor<Token>) -> Result<Measured, Or<Fault>>>(
+fn act_with<F, G: Fn(Global, &mut Cursor) -> Result<Measured, Or<Fault>>>(
     here: &Place<F, G>,
     alloc: Global,
-    tokens: &mut Cursor<Token>,
+    tokens: &mut Cursor,
     call: Measured,
 ) -> Result<Syntax, Or<Fault>>
     requires whole_callable { G.IsAlwaysCallable here.now.whole }
@@ -112,10 +113,10 @@ fn act_with<F, G: Fn(Global, &mut Cursor<Token>) -> Result<Measured, Or<Fault>>>
     Ok(Syntax::Act { spot, action })
 }
 
-fn act_on<F, G: Fn(Global, &mut Cursor<Token>) -> Result<Measured, Or<Fault>>>(
+fn act_on<F, G: Fn(Global, &mut Cursor) -> Result<Measured, Or<Fault>>>(
     here: &Place<F, G>,
     alloc: Global,
-    tokens: &mut Cursor<Token>,
+    tokens: &mut Cursor,
     place: Measured,
 ) -> Result<Syntax, Or<Fault>>
     requires whole_callable { G.IsAlwaysCallable here.now.whole }
@@ -128,10 +129,10 @@ fn act_on<F, G: Fn(Global, &mut Cursor<Token>) -> Result<Measured, Or<Fault>>>(
 }
 
 /// An assignment or a call, behind its place.
-pub(crate) fn act<F, G: Fn(Global, &mut Cursor<Token>) -> Result<Measured, Or<Fault>>>(
+pub(crate) fn act<F, G: Fn(Global, &mut Cursor) -> Result<Measured, Or<Fault>>>(
     here: &Place<F, G>,
     alloc: Global,
-    tokens: &mut Cursor<Token>,
+    tokens: &mut Cursor,
     place: Measured,
 ) -> Result<Syntax, Or<Fault>>
     requires whole_callable { G.IsAlwaysCallable here.now.whole }
@@ -146,9 +147,9 @@ pub(crate) fn act<F, G: Fn(Global, &mut Cursor<Token>) -> Result<Measured, Or<Fa
 
 /// An assignment or a call that begins with no name.
 pub fn primary_act<
-    F: Fn(Global, &mut Cursor<Token>, Ask) -> Result<Got, Or<Fault>>,
-    G: Fn(Global, &mut Cursor<Token>) -> Result<Measured, Or<Fault>>,
->(here: &Place<F, G>, alloc: Global, tokens: &mut Cursor<Token>) -> Result<Syntax, Or<Fault>>
+    F: Fn(Global, &mut Cursor, Ask) -> Result<Got, Or<Fault>>,
+    G: Fn(Global, &mut Cursor) -> Result<Measured, Or<Fault>>,
+>(here: &Place<F, G>, alloc: Global, tokens: &mut Cursor) -> Result<Syntax, Or<Fault>>
     requires callable { F.IsAlwaysCallable here.now.level.read }
     requires exact { (alloc : _) (tokens : _) (ask : _) (result : _) (after : _) → F.post here.now.level.read alloc tokens ask result after → Asked here.now.level.at ask tokens.now result after.now }
     requires whole_callable { G.IsAlwaysCallable here.now.whole }
@@ -161,12 +162,12 @@ pub fn primary_act<
 
 /// An assignment or a call, behind the first part of its place.
 pub(crate) fn postfix_act<
-    F: Fn(Global, &mut Cursor<Token>, Ask) -> Result<Got, Or<Fault>>,
-    G: Fn(Global, &mut Cursor<Token>) -> Result<Measured, Or<Fault>>,
+    F: Fn(Global, &mut Cursor, Ask) -> Result<Got, Or<Fault>>,
+    G: Fn(Global, &mut Cursor) -> Result<Measured, Or<Fault>>,
 >(
     here: &Place<F, G>,
     alloc: Global,
-    tokens: &mut Cursor<Token>,
+    tokens: &mut Cursor,
     first: Measured,
 ) -> Result<Syntax, Or<Fault>>
     requires callable { F.IsAlwaysCallable here.now.level.read }
@@ -180,13 +181,13 @@ pub(crate) fn postfix_act<
 }
 
 /// Takes a name but `global`, which as an expression is its text.
-fn plain_name<'a, 'b>(tokens: &mut Cursor<'a, Token<'b>>) -> Result<&'a Token<'b>, Fault>
+fn plain_name<'a>(tokens: &mut Cursor<'a>) -> Result<Token<'a>, Fault>
     ensures reads { let read = (one kind_of name_kinds (λ t. t)).reads tokens.old in
-        MatchResult result (λ taken. read ≡ Ok (taken.now, tokens.new)) (λ fault. (fault ≡ Unexpected) × (read ≡ Err (false, tokens.new))) }
-    ensures name { IfOk result (λ taken. simple_of taken.now ≡ global_leaf taken.now) }
+        MatchResult result (λ taken. read ≡ Ok (taken, tokens.new)) (λ fault. (fault ≡ Unexpected) × (read ≡ Err (false, tokens.new))) }
+    ensures name { IfOk result (λ taken. simple_of taken ≡ global_leaf taken) }
 {
     let token = take_one(tokens, &PLAIN_NAMES)?;
-    Ok(token)
+    Ok(&token)
 }
 
 fn plain(alloc: Global, token: &Token) -> Result<Measured, NoMemory>
@@ -198,9 +199,9 @@ fn plain(alloc: Global, token: &Token) -> Result<Measured, NoMemory>
 
 /// A label, or an assignment or a call that begins with a name.
 pub fn named_statement<
-    F: Fn(Global, &mut Cursor<Token>, Ask) -> Result<Got, Or<Fault>>,
-    G: Fn(Global, &mut Cursor<Token>) -> Result<Measured, Or<Fault>>,
->(here: &Place<F, G>, alloc: Global, tokens: &mut Cursor<Token>) -> Result<Syntax, Or<Fault>>
+    F: Fn(Global, &mut Cursor, Ask) -> Result<Got, Or<Fault>>,
+    G: Fn(Global, &mut Cursor) -> Result<Measured, Or<Fault>>,
+>(here: &Place<F, G>, alloc: Global, tokens: &mut Cursor) -> Result<Syntax, Or<Fault>>
     requires callable { F.IsAlwaysCallable here.now.level.read }
     requires exact { (alloc : _) (tokens : _) (ask : _) (result : _) (after : _) → F.post here.now.level.read alloc tokens ask result after → Asked here.now.level.at ask tokens.now result after.now }
     requires whole_callable { G.IsAlwaysCallable here.now.whole }

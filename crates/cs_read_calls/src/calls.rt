@@ -10,20 +10,20 @@ ghost use Rattle.cs_read_calls.specs.Asked.{inner_of, Asked};
 
 use crate::level::{Ask, Got, Level};
 use crate::nodes::{call, element, held, member, too_deep};
-use cs_grammar::{Cursor, Fault, begins, expect};
+use cs_grammar::Fault;
+use cs_lex::{Cursor, begins, expect};
 use cs_productions::{Args, Measured, Part};
 use cs_read_types::kinds::{BRACKET, COMMA, DOT, PAREN, UNBRACKET, UNPAREN};
 use cs_read_types::{any_name, way};
-use cs_token::Token;
 use cs_tree::{Arg, Name};
 use dc_base::{Items, Or};
 use std::alloc::Global;
 
-impl<F: Fn(Global, &mut Cursor<Token>, Ask) -> Result<Got, Or<Fault>>> Level<F> {
+impl<F: Fn(Global, &mut Cursor, Ask) -> Result<Got, Or<Fault>>> Level<F> {
     fn one_arg(
         &self,
         alloc: Global,
-        tokens: &mut Cursor<Token>,
+        tokens: &mut Cursor,
         before: Args,
     ) -> Result<Args, Or<Fault>>
         requires callable { F.IsAlwaysCallable self.now.read }
@@ -48,7 +48,7 @@ impl<F: Fn(Global, &mut Cursor<Token>, Ask) -> Result<Got, Or<Fault>>> Level<F> 
     fn one_more_arg(
         &self,
         alloc: Global,
-        tokens: &mut Cursor<Token>,
+        tokens: &mut Cursor,
         before: Args,
     ) -> Result<Args, Or<Fault>>
         requires callable { F.IsAlwaysCallable self.now.read }
@@ -64,7 +64,7 @@ impl<F: Fn(Global, &mut Cursor<Token>, Ask) -> Result<Got, Or<Fault>>> Level<F> 
     fn more_args(
         &self,
         alloc: Global,
-        tokens: &mut Cursor<Token>,
+        tokens: &mut Cursor,
         first: Args,
     ) -> Result<Args, Or<Fault>>
         requires callable { F.IsAlwaysCallable self.now.read }
@@ -83,7 +83,7 @@ impl<F: Fn(Global, &mut Cursor<Token>, Ask) -> Result<Got, Or<Fault>>> Level<F> 
         Ok(args)
     }
 
-    fn some_args(&self, alloc: Global, tokens: &mut Cursor<Token>) -> Result<Args, Or<Fault>>
+    fn some_args(&self, alloc: Global, tokens: &mut Cursor) -> Result<Args, Or<Fault>>
         requires callable { F.IsAlwaysCallable self.now.read }
         requires exact { (alloc : _) (tokens : _) (ask : _) (result : _) (after : _) → F.post self.now.read alloc tokens ask result after → Asked self.now.at ask tokens.now result after.now }
         ensures reads { Reads ((some_args_of (inner_of self.now.at)).reads tokens.old) result tokens.new }
@@ -100,7 +100,7 @@ impl<F: Fn(Global, &mut Cursor<Token>, Ask) -> Result<Got, Or<Fault>>> Level<F> 
     }
 
     /// The arguments of a call, in parentheses.
-    pub fn arguments(&self, alloc: Global, tokens: &mut Cursor<Token>) -> Result<Args, Or<Fault>>
+    pub fn arguments(&self, alloc: Global, tokens: &mut Cursor) -> Result<Args, Or<Fault>>
         requires callable { F.IsAlwaysCallable self.now.read }
         requires exact { (alloc : _) (tokens : _) (ask : _) (result : _) (after : _) → F.post self.now.read alloc tokens ask result after → Asked self.now.at ask tokens.now result after.now }
         ensures reads { Reads ((arguments_of (inner_of self.now.at)).reads tokens.old) result tokens.new }
@@ -120,7 +120,7 @@ impl<F: Fn(Global, &mut Cursor<Token>, Ask) -> Result<Got, Or<Fault>>> Level<F> 
     fn called(
         &self,
         alloc: Global,
-        tokens: &mut Cursor<Token>,
+        tokens: &mut Cursor,
         object: Measured,
         name: Name,
     ) -> Result<Measured, Or<Fault>>
@@ -144,7 +144,7 @@ impl<F: Fn(Global, &mut Cursor<Token>, Ask) -> Result<Got, Or<Fault>>> Level<F> 
     pub fn one_member(
         &self,
         alloc: Global,
-        tokens: &mut Cursor<Token>,
+        tokens: &mut Cursor,
         object: Measured,
     ) -> Result<Measured, Or<Fault>>
         requires callable { F.IsAlwaysCallable self.now.read }
@@ -161,7 +161,7 @@ impl<F: Fn(Global, &mut Cursor<Token>, Ask) -> Result<Got, Or<Fault>>> Level<F> 
     pub fn one_index(
         &self,
         alloc: Global,
-        tokens: &mut Cursor<Token>,
+        tokens: &mut Cursor,
         array: Measured,
     ) -> Result<Measured, Or<Fault>>
         requires callable { F.IsAlwaysCallable self.now.read }
@@ -181,7 +181,7 @@ impl<F: Fn(Global, &mut Cursor<Token>, Ask) -> Result<Got, Or<Fault>>> Level<F> 
     fn one_postfix(
         &self,
         alloc: Global,
-        tokens: &mut Cursor<Token>,
+        tokens: &mut Cursor,
         a: Measured,
     ) -> Result<Measured, Or<Fault>>
         requires callable { F.IsAlwaysCallable self.now.read }
@@ -199,7 +199,7 @@ impl<F: Fn(Global, &mut Cursor<Token>, Ask) -> Result<Got, Or<Fault>>> Level<F> 
     pub fn postfixes(
         &self,
         alloc: Global,
-        tokens: &mut Cursor<Token>,
+        tokens: &mut Cursor,
         first: Measured,
     ) -> Result<Measured, Or<Fault>>
         requires callable { F.IsAlwaysCallable self.now.read }

@@ -4,9 +4,9 @@ ghost use Rattle.std.specs.Prelude.{◌≡◌, ◌≤◌, IfOk};
 ghost use Rattle.cs_grammar.specs.Reads.{Reads};
 ghost use Rattle.cs_read_calls.specs.Asked.{inner_of, lead_height, Asked};
 
-use cs_grammar::{Cursor, Fault};
+use cs_grammar::Fault;
+use cs_lex::Cursor;
 use cs_productions::{Lead, Measured, Part};
-use cs_token::Token;
 use cs_tree::Block;
 use dc_base::Or;
 use std::alloc::Global;
@@ -44,7 +44,7 @@ pub struct Level<F> {
     pub read: F,
 }
 
-impl<F: Fn(Global, &mut Cursor<Token>, Ask) -> Result<Got, Or<Fault>>> Level<F> {
+impl<F: Fn(Global, &mut Cursor, Ask) -> Result<Got, Or<Fault>>> Level<F> {
     /// How many levels are left.
     pub fn levels(&self) -> u16
         ensures { result ≡ self.now.at.left }
@@ -55,7 +55,7 @@ impl<F: Fn(Global, &mut Cursor<Token>, Ask) -> Result<Got, Or<Fault>>> Level<F> 
     fn read_form(
         &self,
         alloc: Global,
-        tokens: &mut Cursor<Token>,
+        tokens: &mut Cursor,
         part: Part,
     ) -> Result<Measured, Or<Fault>>
         requires callable { F.IsAlwaysCallable self.now.read }
@@ -72,7 +72,7 @@ impl<F: Fn(Global, &mut Cursor<Token>, Ask) -> Result<Got, Or<Fault>>> Level<F> 
     pub fn form(
         &self,
         alloc: Global,
-        tokens: &mut Cursor<Token>,
+        tokens: &mut Cursor,
         part: Part,
     ) -> Result<Measured, Or<Fault>>
         requires callable { F.IsAlwaysCallable self.now.read }
@@ -83,7 +83,7 @@ impl<F: Fn(Global, &mut Cursor<Token>, Ask) -> Result<Got, Or<Fault>>> Level<F> 
         self.read_form(alloc, tokens, part)
     }
 
-    fn read_lead(&self, alloc: Global, tokens: &mut Cursor<Token>) -> Result<Lead, Or<Fault>>
+    fn read_lead(&self, alloc: Global, tokens: &mut Cursor) -> Result<Lead, Or<Fault>>
         requires callable { F.IsAlwaysCallable self.now.read }
         requires exact { (alloc : _) (tokens : _) (ask : _) (result : _) (after : _) → F.post self.now.read alloc tokens ask result after → Asked self.now.at ask tokens.now result after.now }
         ensures { Reads ((inner_of self.now.at).lead.reads tokens.old) result tokens.new }
@@ -95,7 +95,7 @@ impl<F: Fn(Global, &mut Cursor<Token>, Ask) -> Result<Got, Or<Fault>>> Level<F> 
     }
 
     /// Reads what begins with `global` inside parentheses, one level lower.
-    pub fn lead(&self, alloc: Global, tokens: &mut Cursor<Token>) -> Result<Lead, Or<Fault>>
+    pub fn lead(&self, alloc: Global, tokens: &mut Cursor) -> Result<Lead, Or<Fault>>
         requires callable { F.IsAlwaysCallable self.now.read }
         requires exact { (alloc : _) (tokens : _) (ask : _) (result : _) (after : _) → F.post self.now.read alloc tokens ask result after → Asked self.now.at ask tokens.now result after.now }
         ensures reads { Reads ((inner_of self.now.at).lead.reads tokens.old) result tokens.new }
@@ -105,7 +105,7 @@ impl<F: Fn(Global, &mut Cursor<Token>, Ask) -> Result<Got, Or<Fault>>> Level<F> 
     }
 
     /// Reads the block of a lambda or a statement.
-    pub fn block(&self, alloc: Global, tokens: &mut Cursor<Token>) -> Result<Block, Or<Fault>>
+    pub fn block(&self, alloc: Global, tokens: &mut Cursor) -> Result<Block, Or<Fault>>
         requires callable { F.IsAlwaysCallable self.now.read }
         requires exact { (alloc : _) (tokens : _) (ask : _) (result : _) (after : _) → F.post self.now.read alloc tokens ask result after → Asked self.now.at ask tokens.now result after.now }
         ensures { Reads ((inner_of self.now.at).block.reads tokens.old) result tokens.new }

@@ -10,14 +10,14 @@ ghost use Rattle.cs_productions.specs.Primaries.{called_path as called_path_of, 
 ghost use Rattle.cs_productions.specs.Types.{global_type};
 ghost use Rattle.cs_read_calls.specs.Asked.{inner_of, Asked};
 
-use cs_grammar::{Cursor, Fault, begins, expect};
+use cs_grammar::Fault;
+use cs_lex::{Cursor, begins, expect};
 use cs_productions::{Lead, Measured, Part};
 use cs_read_calls::{Ask, Got, Level, element, held, leaf};
 use cs_read_operators::conditional;
 use cs_read_primaries::{blocks_here, called_path, ranks_here};
 use cs_read_types::kinds::{BRACKET, COLONS, EXPRESSION, NAMES, PAREN, UNBRACKET};
 use cs_read_types::{any_name, global_leaf, path, ranks};
-use cs_token::Token;
 use cs_tree::{Form, Spot, TypeForm, TypeName};
 use dc_base::{Or, Seq, Text};
 use std::alloc::Global;
@@ -38,10 +38,10 @@ fn by_path(spot: Spot, path: Seq<Text>) -> TypeForm
     }
 }
 
-fn rest_of_form<F: Fn(Global, &mut Cursor<Token>, Ask) -> Result<Got, Or<Fault>>>(
+fn rest_of_form<F: Fn(Global, &mut Cursor, Ask) -> Result<Got, Or<Fault>>>(
     level: &Level<F>,
     alloc: Global,
-    tokens: &mut Cursor<Token>,
+    tokens: &mut Cursor,
     first: Measured,
 ) -> Result<Lead, Or<Fault>>
     requires callable { F.IsAlwaysCallable level.now.read }
@@ -52,7 +52,7 @@ fn rest_of_form<F: Fn(Global, &mut Cursor<Token>, Ask) -> Result<Got, Or<Fault>>
     Ok(Lead::Form { read })
 }
 
-fn named_led(alloc: Global, tokens: &mut Cursor<Token>, ty: TypeForm) -> Result<Lead, Or<Fault>>
+fn named_led(alloc: Global, tokens: &mut Cursor, ty: TypeForm) -> Result<Lead, Or<Fault>>
     ensures { Reads ((named_led_of ty).reads tokens.old) result tokens.new }
 {
     let name = any_name(alloc, tokens)?;
@@ -61,7 +61,7 @@ fn named_led(alloc: Global, tokens: &mut Cursor<Token>, ty: TypeForm) -> Result<
 
 fn array_led(
     alloc: Global,
-    tokens: &mut Cursor<Token>,
+    tokens: &mut Cursor,
     blocks: u16,
     limit: u16,
     ty: TypeForm,
@@ -84,10 +84,10 @@ fn array_led(
     named_led(alloc, tokens, ty)
 }
 
-fn index_led<F: Fn(Global, &mut Cursor<Token>, Ask) -> Result<Got, Or<Fault>>>(
+fn index_led<F: Fn(Global, &mut Cursor, Ask) -> Result<Got, Or<Fault>>>(
     level: &Level<F>,
     alloc: Global,
-    tokens: &mut Cursor<Token>,
+    tokens: &mut Cursor,
     array: Measured,
 ) -> Result<Lead, Or<Fault>>
     requires callable { F.IsAlwaysCallable level.now.read }
@@ -104,10 +104,10 @@ fn index_led<F: Fn(Global, &mut Cursor<Token>, Ask) -> Result<Got, Or<Fault>>>(
     rest_of_form(level, alloc, tokens, first)
 }
 
-fn bracket_led<F: Fn(Global, &mut Cursor<Token>, Ask) -> Result<Got, Or<Fault>>>(
+fn bracket_led<F: Fn(Global, &mut Cursor, Ask) -> Result<Got, Or<Fault>>>(
     level: &Level<F>,
     alloc: Global,
-    tokens: &mut Cursor<Token>,
+    tokens: &mut Cursor,
     spot: Spot,
     path: Seq<Text>,
 ) -> Result<Lead, Or<Fault>>
@@ -131,10 +131,10 @@ fn bracket_led<F: Fn(Global, &mut Cursor<Token>, Ask) -> Result<Got, Or<Fault>>>
     index_led(level, alloc, tokens, alone(spot, path))
 }
 
-fn called_or_alone<F: Fn(Global, &mut Cursor<Token>, Ask) -> Result<Got, Or<Fault>>>(
+fn called_or_alone<F: Fn(Global, &mut Cursor, Ask) -> Result<Got, Or<Fault>>>(
     level: &Level<F>,
     alloc: Global,
-    tokens: &mut Cursor<Token>,
+    tokens: &mut Cursor,
     spot: Spot,
     path: Seq<Text>,
 ) -> Result<Measured, Or<Fault>>
@@ -151,10 +151,10 @@ fn called_or_alone<F: Fn(Global, &mut Cursor<Token>, Ask) -> Result<Got, Or<Faul
     called_path(level, alloc, tokens, spot, path)
 }
 
-fn called_led<F: Fn(Global, &mut Cursor<Token>, Ask) -> Result<Got, Or<Fault>>>(
+fn called_led<F: Fn(Global, &mut Cursor, Ask) -> Result<Got, Or<Fault>>>(
     level: &Level<F>,
     alloc: Global,
-    tokens: &mut Cursor<Token>,
+    tokens: &mut Cursor,
     spot: Spot,
     path: Seq<Text>,
 ) -> Result<Lead, Or<Fault>>
@@ -166,10 +166,10 @@ fn called_led<F: Fn(Global, &mut Cursor<Token>, Ask) -> Result<Got, Or<Fault>>>(
     rest_of_form(level, alloc, tokens, first)
 }
 
-fn unnamed_led<F: Fn(Global, &mut Cursor<Token>, Ask) -> Result<Got, Or<Fault>>>(
+fn unnamed_led<F: Fn(Global, &mut Cursor, Ask) -> Result<Got, Or<Fault>>>(
     level: &Level<F>,
     alloc: Global,
-    tokens: &mut Cursor<Token>,
+    tokens: &mut Cursor,
     spot: Spot,
     path: Seq<Text>,
 ) -> Result<Lead, Or<Fault>>
@@ -183,10 +183,10 @@ fn unnamed_led<F: Fn(Global, &mut Cursor<Token>, Ask) -> Result<Got, Or<Fault>>>
     called_led(level, alloc, tokens, spot, path)
 }
 
-fn path_led<F: Fn(Global, &mut Cursor<Token>, Ask) -> Result<Got, Or<Fault>>>(
+fn path_led<F: Fn(Global, &mut Cursor, Ask) -> Result<Got, Or<Fault>>>(
     level: &Level<F>,
     alloc: Global,
-    tokens: &mut Cursor<Token>,
+    tokens: &mut Cursor,
     spot: Spot,
 ) -> Result<Lead, Or<Fault>>
     requires callable { F.IsAlwaysCallable level.now.read }
@@ -204,10 +204,10 @@ fn path_led<F: Fn(Global, &mut Cursor<Token>, Ask) -> Result<Got, Or<Fault>>>(
     named_led(alloc, tokens, by_path(spot, path))
 }
 
-fn name_led<F: Fn(Global, &mut Cursor<Token>, Ask) -> Result<Got, Or<Fault>>>(
+fn name_led<F: Fn(Global, &mut Cursor, Ask) -> Result<Got, Or<Fault>>>(
     level: &Level<F>,
     alloc: Global,
-    tokens: &mut Cursor<Token>,
+    tokens: &mut Cursor,
     name: Measured,
 ) -> Result<Lead, Or<Fault>>
     requires callable { F.IsAlwaysCallable level.now.read }
@@ -219,10 +219,10 @@ fn name_led<F: Fn(Global, &mut Cursor<Token>, Ask) -> Result<Got, Or<Fault>>>(
 }
 
 /// What begins with `global` inside parentheses.
-pub fn lead<F: Fn(Global, &mut Cursor<Token>, Ask) -> Result<Got, Or<Fault>>>(
+pub fn lead<F: Fn(Global, &mut Cursor, Ask) -> Result<Got, Or<Fault>>>(
     level: &Level<F>,
     alloc: Global,
-    tokens: &mut Cursor<Token>,
+    tokens: &mut Cursor,
 ) -> Result<Lead, Or<Fault>>
     requires callable { F.IsAlwaysCallable level.now.read }
     requires exact { (alloc : _) (tokens : _) (ask : _) (result : _) (after : _) → F.post level.now.read alloc tokens ask result after → Asked level.now.at ask tokens.now result after.now }

@@ -6,7 +6,6 @@ ghost use Rattle.cs_productions.specs.Tokens.{kind as kind_of, spot_of, unary_of
 ghost use Rattle.cs_productions.specs.Calls.{raised as raised_of};
 ghost use Rattle.cs_productions.specs.Operators.{path_of};
 
-use cs_grammar::Kinded;
 use cs_productions::Measured;
 use cs_read_calls::{OnHeap, raised};
 use cs_read_types::{spot, unary};

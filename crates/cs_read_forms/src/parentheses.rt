@@ -6,7 +6,8 @@ ghost use Rattle.cs_productions.specs.Operators.{lambda as lambda_of, lambda_beh
 ghost use Rattle.cs_read_calls.specs.Asked.{inner_of, lead_height, Asked};
 
 use crate::nodes::{cast, is_path, one, type_of_path};
-use cs_grammar::{Cursor, Fault, begins, expect, take_one};
+use cs_grammar::Fault;
+use cs_lex::{Cursor, begins, expect, take_one};
 use cs_productions::{Lead, Measured, Part};
 use cs_read_calls::{Ask, Got, Level, held, raised};
 use cs_read_primaries::{
@@ -17,15 +18,14 @@ use cs_read_types::kinds::{
     OPERAND, PAREN, UNARY, UNPAREN,
 };
 use cs_read_types::{any_name, more_params, passed_param, place, type_of_keyword};
-use cs_token::Token;
 use cs_tree::{Form, Param, Spot, TypeForm, Way};
 use dc_base::{Or, Seq};
 use std::alloc::Global;
 
-fn lambda<F: Fn(Global, &mut Cursor<Token>, Ask) -> Result<Got, Or<Fault>>>(
+fn lambda<F: Fn(Global, &mut Cursor, Ask) -> Result<Got, Or<Fault>>>(
     level: &Level<F>,
     alloc: Global,
-    tokens: &mut Cursor<Token>,
+    tokens: &mut Cursor,
     spot: Spot,
     params: Seq<Param>,
 ) -> Result<Measured, Or<Fault>>
@@ -44,10 +44,10 @@ fn lambda<F: Fn(Global, &mut Cursor<Token>, Ask) -> Result<Got, Or<Fault>>>(
     level.postfixes(alloc, tokens, raised(0, form, spot))
 }
 
-fn lambda_behind<F: Fn(Global, &mut Cursor<Token>, Ask) -> Result<Got, Or<Fault>>>(
+fn lambda_behind<F: Fn(Global, &mut Cursor, Ask) -> Result<Got, Or<Fault>>>(
     level: &Level<F>,
     alloc: Global,
-    tokens: &mut Cursor<Token>,
+    tokens: &mut Cursor,
     spot: Spot,
     first: Param,
 ) -> Result<Measured, Or<Fault>>
@@ -61,10 +61,10 @@ fn lambda_behind<F: Fn(Global, &mut Cursor<Token>, Ask) -> Result<Got, Or<Fault>
     lambda(level, alloc, tokens, spot, params)
 }
 
-fn lambda_from_way<F: Fn(Global, &mut Cursor<Token>, Ask) -> Result<Got, Or<Fault>>>(
+fn lambda_from_way<F: Fn(Global, &mut Cursor, Ask) -> Result<Got, Or<Fault>>>(
     level: &Level<F>,
     alloc: Global,
-    tokens: &mut Cursor<Token>,
+    tokens: &mut Cursor,
     spot: Spot,
 ) -> Result<Measured, Or<Fault>>
     requires callable { F.IsAlwaysCallable level.now.read }
@@ -75,10 +75,10 @@ fn lambda_from_way<F: Fn(Global, &mut Cursor<Token>, Ask) -> Result<Got, Or<Faul
     lambda_behind(level, alloc, tokens, spot, first)
 }
 
-fn lambda_from_type<F: Fn(Global, &mut Cursor<Token>, Ask) -> Result<Got, Or<Fault>>>(
+fn lambda_from_type<F: Fn(Global, &mut Cursor, Ask) -> Result<Got, Or<Fault>>>(
     level: &Level<F>,
     alloc: Global,
-    tokens: &mut Cursor<Token>,
+    tokens: &mut Cursor,
     spot: Spot,
     ty: TypeForm,
 ) -> Result<Measured, Or<Fault>>
@@ -91,10 +91,10 @@ fn lambda_from_type<F: Fn(Global, &mut Cursor<Token>, Ask) -> Result<Got, Or<Fau
     lambda_behind(level, alloc, tokens, spot, Param { way, ty, name })
 }
 
-fn casting<F: Fn(Global, &mut Cursor<Token>, Ask) -> Result<Got, Or<Fault>>>(
+fn casting<F: Fn(Global, &mut Cursor, Ask) -> Result<Got, Or<Fault>>>(
     level: &Level<F>,
     alloc: Global,
-    tokens: &mut Cursor<Token>,
+    tokens: &mut Cursor,
     spot: Spot,
     ty: TypeForm,
 ) -> Result<Measured, Or<Fault>>
@@ -108,10 +108,10 @@ fn casting<F: Fn(Global, &mut Cursor<Token>, Ask) -> Result<Got, Or<Fault>>>(
     Ok(cast(spot, ty, operand))
 }
 
-fn cast_to<F: Fn(Global, &mut Cursor<Token>, Ask) -> Result<Got, Or<Fault>>>(
+fn cast_to<F: Fn(Global, &mut Cursor, Ask) -> Result<Got, Or<Fault>>>(
     level: &Level<F>,
     alloc: Global,
-    tokens: &mut Cursor<Token>,
+    tokens: &mut Cursor,
     spot: Spot,
     ty: TypeForm,
 ) -> Result<Measured, Or<Fault>>
@@ -123,10 +123,10 @@ fn cast_to<F: Fn(Global, &mut Cursor<Token>, Ask) -> Result<Got, Or<Fault>>>(
     casting(level, alloc, tokens, spot, ty)
 }
 
-fn closed_form<F: Fn(Global, &mut Cursor<Token>, Ask) -> Result<Got, Or<Fault>>>(
+fn closed_form<F: Fn(Global, &mut Cursor, Ask) -> Result<Got, Or<Fault>>>(
     level: &Level<F>,
     alloc: Global,
-    tokens: &mut Cursor<Token>,
+    tokens: &mut Cursor,
     spot: Spot,
     inner: Measured,
 ) -> Result<Measured, Or<Fault>>
@@ -145,10 +145,10 @@ fn closed_form<F: Fn(Global, &mut Cursor<Token>, Ask) -> Result<Got, Or<Fault>>>
     casting(level, alloc, tokens, spot, type_of_path(inner.form))
 }
 
-fn closed<F: Fn(Global, &mut Cursor<Token>, Ask) -> Result<Got, Or<Fault>>>(
+fn closed<F: Fn(Global, &mut Cursor, Ask) -> Result<Got, Or<Fault>>>(
     level: &Level<F>,
     alloc: Global,
-    tokens: &mut Cursor<Token>,
+    tokens: &mut Cursor,
     spot: Spot,
     lead: Lead,
 ) -> Result<Measured, Or<Fault>>
@@ -170,10 +170,10 @@ fn closed<F: Fn(Global, &mut Cursor<Token>, Ask) -> Result<Got, Or<Fault>>>(
     }
 }
 
-fn led_in<F: Fn(Global, &mut Cursor<Token>, Ask) -> Result<Got, Or<Fault>>>(
+fn led_in<F: Fn(Global, &mut Cursor, Ask) -> Result<Got, Or<Fault>>>(
     level: &Level<F>,
     alloc: Global,
-    tokens: &mut Cursor<Token>,
+    tokens: &mut Cursor,
     spot: Spot,
 ) -> Result<Measured, Or<Fault>>
     requires callable { F.IsAlwaysCallable level.now.read }
@@ -184,10 +184,10 @@ fn led_in<F: Fn(Global, &mut Cursor<Token>, Ask) -> Result<Got, Or<Fault>>>(
     closed(level, alloc, tokens, spot, lead)
 }
 
-fn behind_type<F: Fn(Global, &mut Cursor<Token>, Ask) -> Result<Got, Or<Fault>>>(
+fn behind_type<F: Fn(Global, &mut Cursor, Ask) -> Result<Got, Or<Fault>>>(
     level: &Level<F>,
     alloc: Global,
-    tokens: &mut Cursor<Token>,
+    tokens: &mut Cursor,
     spot: Spot,
     ty: TypeForm,
 ) -> Result<Measured, Or<Fault>>
@@ -204,10 +204,10 @@ fn behind_type<F: Fn(Global, &mut Cursor<Token>, Ask) -> Result<Got, Or<Fault>>>
     lambda_from_type(level, alloc, tokens, spot, ty)
 }
 
-fn keyword_in<F: Fn(Global, &mut Cursor<Token>, Ask) -> Result<Got, Or<Fault>>>(
+fn keyword_in<F: Fn(Global, &mut Cursor, Ask) -> Result<Got, Or<Fault>>>(
     level: &Level<F>,
     alloc: Global,
-    tokens: &mut Cursor<Token>,
+    tokens: &mut Cursor,
     spot: Spot,
 ) -> Result<Measured, Or<Fault>>
     requires callable { F.IsAlwaysCallable level.now.read }
@@ -218,10 +218,10 @@ fn keyword_in<F: Fn(Global, &mut Cursor<Token>, Ask) -> Result<Got, Or<Fault>>>(
     behind_type(level, alloc, tokens, spot, ty)
 }
 
-fn plain_in<F: Fn(Global, &mut Cursor<Token>, Ask) -> Result<Got, Or<Fault>>>(
+fn plain_in<F: Fn(Global, &mut Cursor, Ask) -> Result<Got, Or<Fault>>>(
     level: &Level<F>,
     alloc: Global,
-    tokens: &mut Cursor<Token>,
+    tokens: &mut Cursor,
     spot: Spot,
 ) -> Result<Measured, Or<Fault>>
     requires callable { F.IsAlwaysCallable level.now.read }
@@ -234,10 +234,10 @@ fn plain_in<F: Fn(Global, &mut Cursor<Token>, Ask) -> Result<Got, Or<Fault>>>(
     level.postfixes(alloc, tokens, raised(inner.height, inner.form, spot))
 }
 
-fn lambda_in<F: Fn(Global, &mut Cursor<Token>, Ask) -> Result<Got, Or<Fault>>>(
+fn lambda_in<F: Fn(Global, &mut Cursor, Ask) -> Result<Got, Or<Fault>>>(
     level: &Level<F>,
     alloc: Global,
-    tokens: &mut Cursor<Token>,
+    tokens: &mut Cursor,
     spot: Spot,
 ) -> Result<Measured, Or<Fault>>
     requires callable { F.IsAlwaysCallable level.now.read }
@@ -250,10 +250,10 @@ fn lambda_in<F: Fn(Global, &mut Cursor<Token>, Ask) -> Result<Got, Or<Fault>>>(
     lambda_from_way(level, alloc, tokens, spot)
 }
 
-fn form_in<F: Fn(Global, &mut Cursor<Token>, Ask) -> Result<Got, Or<Fault>>>(
+fn form_in<F: Fn(Global, &mut Cursor, Ask) -> Result<Got, Or<Fault>>>(
     level: &Level<F>,
     alloc: Global,
-    tokens: &mut Cursor<Token>,
+    tokens: &mut Cursor,
     spot: Spot,
 ) -> Result<Measured, Or<Fault>>
     requires callable { F.IsAlwaysCallable level.now.read }
@@ -269,10 +269,10 @@ fn form_in<F: Fn(Global, &mut Cursor<Token>, Ask) -> Result<Got, Or<Fault>>>(
     plain_in(level, alloc, tokens, spot)
 }
 
-fn behind_paren<F: Fn(Global, &mut Cursor<Token>, Ask) -> Result<Got, Or<Fault>>>(
+fn behind_paren<F: Fn(Global, &mut Cursor, Ask) -> Result<Got, Or<Fault>>>(
     level: &Level<F>,
     alloc: Global,
-    tokens: &mut Cursor<Token>,
+    tokens: &mut Cursor,
     spot: Spot,
 ) -> Result<Measured, Or<Fault>>
     requires callable { F.IsAlwaysCallable level.now.read }
@@ -288,10 +288,10 @@ fn behind_paren<F: Fn(Global, &mut Cursor<Token>, Ask) -> Result<Got, Or<Fault>>
     lambda_in(level, alloc, tokens, spot)
 }
 
-fn of_paren<F: Fn(Global, &mut Cursor<Token>, Ask) -> Result<Got, Or<Fault>>>(
+fn of_paren<F: Fn(Global, &mut Cursor, Ask) -> Result<Got, Or<Fault>>>(
     level: &Level<F>,
     alloc: Global,
-    tokens: &mut Cursor<Token>,
+    tokens: &mut Cursor,
 ) -> Result<Measured, Or<Fault>>
     requires callable { F.IsAlwaysCallable level.now.read }
     requires exact { (alloc : _) (tokens : _) (ask : _) (result : _) (after : _) → F.post level.now.read alloc tokens ask result after → Asked level.now.at ask tokens.now result after.now }
@@ -301,10 +301,10 @@ fn of_paren<F: Fn(Global, &mut Cursor<Token>, Ask) -> Result<Got, Or<Fault>>>(
     behind_paren(level, alloc, tokens, spot)
 }
 
-fn of_counted<F: Fn(Global, &mut Cursor<Token>, Ask) -> Result<Got, Or<Fault>>>(
+fn of_counted<F: Fn(Global, &mut Cursor, Ask) -> Result<Got, Or<Fault>>>(
     level: &Level<F>,
     alloc: Global,
-    tokens: &mut Cursor<Token>,
+    tokens: &mut Cursor,
 ) -> Result<Measured, Or<Fault>>
     requires callable { F.IsAlwaysCallable level.now.read }
     requires exact { (alloc : _) (tokens : _) (ask : _) (result : _) (after : _) → F.post level.now.read alloc tokens ask result after → Asked level.now.at ask tokens.now result after.now }
@@ -322,10 +322,10 @@ fn of_counted<F: Fn(Global, &mut Cursor<Token>, Ask) -> Result<Got, Or<Fault>>>(
     of_checked(level, alloc, tokens)
 }
 
-fn of_plain<F: Fn(Global, &mut Cursor<Token>, Ask) -> Result<Got, Or<Fault>>>(
+fn of_plain<F: Fn(Global, &mut Cursor, Ask) -> Result<Got, Or<Fault>>>(
     level: &Level<F>,
     alloc: Global,
-    tokens: &mut Cursor<Token>,
+    tokens: &mut Cursor,
 ) -> Result<Measured, Or<Fault>>
     requires callable { F.IsAlwaysCallable level.now.read }
     requires exact { (alloc : _) (tokens : _) (ask : _) (result : _) (after : _) → F.post level.now.read alloc tokens ask result after → Asked level.now.at ask tokens.now result after.now }
@@ -337,10 +337,10 @@ fn of_plain<F: Fn(Global, &mut Cursor<Token>, Ask) -> Result<Got, Or<Fault>>>(
     of_simple(level, alloc, tokens)
 }
 
-fn plain_operand<F: Fn(Global, &mut Cursor<Token>, Ask) -> Result<Got, Or<Fault>>>(
+fn plain_operand<F: Fn(Global, &mut Cursor, Ask) -> Result<Got, Or<Fault>>>(
     level: &Level<F>,
     alloc: Global,
-    tokens: &mut Cursor<Token>,
+    tokens: &mut Cursor,
 ) -> Result<Measured, Or<Fault>>
     requires callable { F.IsAlwaysCallable level.now.read }
     requires exact { (alloc : _) (tokens : _) (ask : _) (result : _) (after : _) → F.post level.now.read alloc tokens ask result after → Asked level.now.at ask tokens.now result after.now }
@@ -356,10 +356,10 @@ fn plain_operand<F: Fn(Global, &mut Cursor<Token>, Ask) -> Result<Got, Or<Fault>
 }
 
 /// What stands behind a cast, or without an operator in front.
-pub fn operand<F: Fn(Global, &mut Cursor<Token>, Ask) -> Result<Got, Or<Fault>>>(
+pub fn operand<F: Fn(Global, &mut Cursor, Ask) -> Result<Got, Or<Fault>>>(
     level: &Level<F>,
     alloc: Global,
-    tokens: &mut Cursor<Token>,
+    tokens: &mut Cursor,
 ) -> Result<Measured, Or<Fault>>
     requires callable { F.IsAlwaysCallable level.now.read }
     requires exact { (alloc : _) (tokens : _) (ask : _) (result : _) (after : _) → F.post level.now.read alloc tokens ask result after → Asked level.now.at ask tokens.now result after.now }
@@ -371,10 +371,10 @@ pub fn operand<F: Fn(Global, &mut Cursor<Token>, Ask) -> Result<Got, Or<Fault>>>
     plain_operand(level, alloc, tokens)
 }
 
-fn signed<F: Fn(Global, &mut Cursor<Token>, Ask) -> Result<Got, Or<Fault>>>(
+fn signed<F: Fn(Global, &mut Cursor, Ask) -> Result<Got, Or<Fault>>>(
     level: &Level<F>,
     alloc: Global,
-    tokens: &mut Cursor<Token>,
+    tokens: &mut Cursor,
 ) -> Result<Measured, Or<Fault>>
     requires callable { F.IsAlwaysCallable level.now.read }
     requires exact { (alloc : _) (tokens : _) (ask : _) (result : _) (after : _) → F.post level.now.read alloc tokens ask result after → Asked level.now.at ask tokens.now result after.now }
@@ -384,14 +384,14 @@ fn signed<F: Fn(Global, &mut Cursor<Token>, Ask) -> Result<Got, Or<Fault>>>(
     let _levels = level.levels();
     let operand = level.form(alloc, tokens, Part::Unary)?;
     let operand = held(alloc, operand)?;
-    Ok(one(token, operand))
+    Ok(one(&token, operand))
 }
 
 /// `!a`, `~a`, `-a`, or an operand
-pub fn unary<F: Fn(Global, &mut Cursor<Token>, Ask) -> Result<Got, Or<Fault>>>(
+pub fn unary<F: Fn(Global, &mut Cursor, Ask) -> Result<Got, Or<Fault>>>(
     level: &Level<F>,
     alloc: Global,
-    tokens: &mut Cursor<Token>,
+    tokens: &mut Cursor,
 ) -> Result<Measured, Or<Fault>>
     requires callable { F.IsAlwaysCallable level.now.read }
     requires exact { (alloc : _) (tokens : _) (ask : _) (result : _) (after : _) → F.post level.now.read alloc tokens ask result after → Asked level.now.at ask tokens.now result after.now }
@@ -407,10 +407,10 @@ pub fn unary<F: Fn(Global, &mut Cursor<Token>, Ask) -> Result<Got, Or<Fault>>>(
 }
 
 /// The same, where it does not begin with `global`.
-pub fn plain_unary<F: Fn(Global, &mut Cursor<Token>, Ask) -> Result<Got, Or<Fault>>>(
+pub fn plain_unary<F: Fn(Global, &mut Cursor, Ask) -> Result<Got, Or<Fault>>>(
     level: &Level<F>,
     alloc: Global,
-    tokens: &mut Cursor<Token>,
+    tokens: &mut Cursor,
 ) -> Result<Measured, Or<Fault>>
     requires callable { F.IsAlwaysCallable level.now.read }
     requires exact { (alloc : _) (tokens : _) (ask : _) (result : _) (after : _) → F.post level.now.read alloc tokens ask result after → Asked level.now.at ask tokens.now result after.now }

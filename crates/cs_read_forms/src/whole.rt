@@ -8,21 +8,21 @@ ghost use Rattle.cs_read_calls.specs.Asked.{inner_of, Asked};
 ghost use Rattle.cs_read_forms.specs.InTwo.{begun as begun_of, gone_on as gone_on_of};
 
 use crate::parentheses::{operand, plain_unary, unary};
-use cs_grammar::{Cursor, Fault};
+use cs_grammar::Fault;
+use cs_lex::Cursor;
 use cs_productions::{Measured, Part};
 use cs_read_calls::{Ask, Got, Level};
 use cs_read_operators::{
     additive, and, conditional, conditional_and, equality, exclusive_or, inclusive_or,
     multiplicative, relational, shift,
 };
-use cs_token::Token;
 use dc_base::Or;
 use std::alloc::Global;
 
-fn begun<F: Fn(Global, &mut Cursor<Token>, Ask) -> Result<Got, Or<Fault>>>(
+fn begun<F: Fn(Global, &mut Cursor, Ask) -> Result<Got, Or<Fault>>>(
     level: &Level<F>,
     alloc: Global,
-    tokens: &mut Cursor<Token>,
+    tokens: &mut Cursor,
     part: Part,
 ) -> Result<Measured, Or<Fault>>
     requires callable { F.IsAlwaysCallable level.now.read }
@@ -36,10 +36,10 @@ fn begun<F: Fn(Global, &mut Cursor<Token>, Ask) -> Result<Got, Or<Fault>>>(
     }
 }
 
-fn gone_on<F: Fn(Global, &mut Cursor<Token>, Ask) -> Result<Got, Or<Fault>>>(
+fn gone_on<F: Fn(Global, &mut Cursor, Ask) -> Result<Got, Or<Fault>>>(
     level: &Level<F>,
     alloc: Global,
-    tokens: &mut Cursor<Token>,
+    tokens: &mut Cursor,
     part: Part,
     first: Measured,
 ) -> Result<Measured, Or<Fault>>
@@ -62,10 +62,10 @@ fn gone_on<F: Fn(Global, &mut Cursor<Token>, Ask) -> Result<Got, Or<Fault>>>(
     }
 }
 
-fn in_two<F: Fn(Global, &mut Cursor<Token>, Ask) -> Result<Got, Or<Fault>>>(
+fn in_two<F: Fn(Global, &mut Cursor, Ask) -> Result<Got, Or<Fault>>>(
     level: &Level<F>,
     alloc: Global,
-    tokens: &mut Cursor<Token>,
+    tokens: &mut Cursor,
     part: Part,
 ) -> Result<Measured, Or<Fault>>
     requires callable { F.IsAlwaysCallable level.now.read }
@@ -77,10 +77,10 @@ fn in_two<F: Fn(Global, &mut Cursor<Token>, Ask) -> Result<Got, Or<Fault>>>(
 }
 
 /// A part of an expression, such as its whole or an operand.
-pub fn form<F: Fn(Global, &mut Cursor<Token>, Ask) -> Result<Got, Or<Fault>>>(
+pub fn form<F: Fn(Global, &mut Cursor, Ask) -> Result<Got, Or<Fault>>>(
     level: &Level<F>,
     alloc: Global,
-    tokens: &mut Cursor<Token>,
+    tokens: &mut Cursor,
     part: Part,
 ) -> Result<Measured, Or<Fault>>
     requires callable { F.IsAlwaysCallable level.now.read }

@@ -9,23 +9,23 @@ ghost use Rattle.cs_read_actions.specs.Place.{WholeRead};
 ghost use Rattle.cs_read_heads.specs.Tails.{second, for_behind as for_behind_of, over_behind};
 
 use crate::kinds::{KW_FOR, KW_FOREACH, KW_IN, KW_USING};
-use cs_grammar::{Cursor, Fault, expect};
+use cs_grammar::Fault;
+use cs_lex::{Cursor, expect};
 use cs_productions::Measured;
 use cs_read_actions::{Place, expression, pairs, primary};
 use cs_read_acts::action_to;
 use cs_read_calls::{Ask, Got, Level};
 use cs_read_types::kinds::{EQUALS, PAREN, SEMICOLON, UNPAREN};
 use cs_read_types::{any_name, place, ty};
-use cs_token::Token;
 use cs_tree::{Action, Block, Form, Spot, Syntax, TypeForm};
 use dc_base::Or;
 use std::alloc::Global;
 
 /// The step of a `for`, and the `)` behind it.
 fn step<
-    F: Fn(Global, &mut Cursor<Token>, Ask) -> Result<Got, Or<Fault>>,
-    G: Fn(Global, &mut Cursor<Token>) -> Result<Measured, Or<Fault>>,
->(here: &Place<F, G>, alloc: Global, tokens: &mut Cursor<Token>) -> Result<Action, Or<Fault>>
+    F: Fn(Global, &mut Cursor, Ask) -> Result<Got, Or<Fault>>,
+    G: Fn(Global, &mut Cursor) -> Result<Measured, Or<Fault>>,
+>(here: &Place<F, G>, alloc: Global, tokens: &mut Cursor) -> Result<Action, Or<Fault>>
     requires callable { F.IsAlwaysCallable here.now.level.read }
     requires exact { (alloc : _) (tokens : _) (ask : _) (result : _) (after : _) → F.post here.now.level.read alloc tokens ask result after → Asked here.now.level.at ask tokens.now result after.now }
     requires whole_callable { G.IsAlwaysCallable here.now.whole }
@@ -37,10 +37,10 @@ fn step<
 }
 
 /// A block behind what was read, which goes where no block stands.
-fn with_block<F: Fn(Global, &mut Cursor<Token>, Ask) -> Result<Got, Or<Fault>>, A: Drop>(
+fn with_block<F: Fn(Global, &mut Cursor, Ask) -> Result<Got, Or<Fault>>, A: Drop>(
     level: &Level<F>,
     alloc: Global,
-    tokens: &mut Cursor<Token>,
+    tokens: &mut Cursor,
     read: A,
 ) -> Result<(A, Block), Or<Fault>>
     requires callable { F.IsAlwaysCallable level.now.read }
@@ -53,12 +53,12 @@ fn with_block<F: Fn(Global, &mut Cursor<Token>, Ask) -> Result<Got, Or<Fault>>, 
 }
 
 fn for_behind<
-    F: Fn(Global, &mut Cursor<Token>, Ask) -> Result<Got, Or<Fault>>,
-    G: Fn(Global, &mut Cursor<Token>) -> Result<Measured, Or<Fault>>,
+    F: Fn(Global, &mut Cursor, Ask) -> Result<Got, Or<Fault>>,
+    G: Fn(Global, &mut Cursor) -> Result<Measured, Or<Fault>>,
 >(
     here: &Place<F, G>,
     alloc: Global,
-    tokens: &mut Cursor<Token>,
+    tokens: &mut Cursor,
     spot: Spot,
     test: Form,
 ) -> Result<Syntax, Or<Fault>>
@@ -81,9 +81,9 @@ fn for_behind<
 
 /// `for (; a; b += 1) { }`
 pub fn of_for<
-    F: Fn(Global, &mut Cursor<Token>, Ask) -> Result<Got, Or<Fault>>,
-    G: Fn(Global, &mut Cursor<Token>) -> Result<Measured, Or<Fault>>,
->(here: &Place<F, G>, alloc: Global, tokens: &mut Cursor<Token>) -> Result<Syntax, Or<Fault>>
+    F: Fn(Global, &mut Cursor, Ask) -> Result<Got, Or<Fault>>,
+    G: Fn(Global, &mut Cursor) -> Result<Measured, Or<Fault>>,
+>(here: &Place<F, G>, alloc: Global, tokens: &mut Cursor) -> Result<Syntax, Or<Fault>>
     requires callable { F.IsAlwaysCallable here.now.level.read }
     requires exact { (alloc : _) (tokens : _) (ask : _) (result : _) (after : _) → F.post here.now.level.read alloc tokens ask result after → Asked here.now.level.at ask tokens.now result after.now }
     requires whole_callable { G.IsAlwaysCallable here.now.whole }
@@ -98,12 +98,12 @@ pub fn of_for<
 }
 
 fn foreach_behind<
-    F: Fn(Global, &mut Cursor<Token>, Ask) -> Result<Got, Or<Fault>>,
-    G: Fn(Global, &mut Cursor<Token>) -> Result<Measured, Or<Fault>>,
+    F: Fn(Global, &mut Cursor, Ask) -> Result<Got, Or<Fault>>,
+    G: Fn(Global, &mut Cursor) -> Result<Measured, Or<Fault>>,
 >(
     here: &Place<F, G>,
     alloc: Global,
-    tokens: &mut Cursor<Token>,
+    tokens: &mut Cursor,
     spot: Spot,
     ty: TypeForm,
 ) -> Result<Syntax, Or<Fault>>
@@ -129,9 +129,9 @@ fn foreach_behind<
 
 /// `foreach (int x in a) { }`
 pub fn of_foreach<
-    F: Fn(Global, &mut Cursor<Token>, Ask) -> Result<Got, Or<Fault>>,
-    G: Fn(Global, &mut Cursor<Token>) -> Result<Measured, Or<Fault>>,
->(here: &Place<F, G>, alloc: Global, tokens: &mut Cursor<Token>) -> Result<Syntax, Or<Fault>>
+    F: Fn(Global, &mut Cursor, Ask) -> Result<Got, Or<Fault>>,
+    G: Fn(Global, &mut Cursor) -> Result<Measured, Or<Fault>>,
+>(here: &Place<F, G>, alloc: Global, tokens: &mut Cursor) -> Result<Syntax, Or<Fault>>
     requires callable { F.IsAlwaysCallable here.now.level.read }
     requires exact { (alloc : _) (tokens : _) (ask : _) (result : _) (after : _) → F.post here.now.level.read alloc tokens ask result after → Asked here.now.level.at ask tokens.now result after.now }
     requires whole_callable { G.IsAlwaysCallable here.now.whole }
@@ -145,12 +145,12 @@ pub fn of_foreach<
 }
 
 fn using_behind<
-    F: Fn(Global, &mut Cursor<Token>, Ask) -> Result<Got, Or<Fault>>,
-    G: Fn(Global, &mut Cursor<Token>) -> Result<Measured, Or<Fault>>,
+    F: Fn(Global, &mut Cursor, Ask) -> Result<Got, Or<Fault>>,
+    G: Fn(Global, &mut Cursor) -> Result<Measured, Or<Fault>>,
 >(
     here: &Place<F, G>,
     alloc: Global,
-    tokens: &mut Cursor<Token>,
+    tokens: &mut Cursor,
     spot: Spot,
     ty: TypeForm,
 ) -> Result<Syntax, Or<Fault>>
@@ -176,9 +176,9 @@ fn using_behind<
 
 /// `using (global::A.B x = a) { }`
 pub fn of_using<
-    F: Fn(Global, &mut Cursor<Token>, Ask) -> Result<Got, Or<Fault>>,
-    G: Fn(Global, &mut Cursor<Token>) -> Result<Measured, Or<Fault>>,
->(here: &Place<F, G>, alloc: Global, tokens: &mut Cursor<Token>) -> Result<Syntax, Or<Fault>>
+    F: Fn(Global, &mut Cursor, Ask) -> Result<Got, Or<Fault>>,
+    G: Fn(Global, &mut Cursor) -> Result<Measured, Or<Fault>>,
+>(here: &Place<F, G>, alloc: Global, tokens: &mut Cursor) -> Result<Syntax, Or<Fault>>
     requires callable { F.IsAlwaysCallable here.now.level.read }
     requires exact { (alloc : _) (tokens : _) (ask : _) (result : _) (after : _) → F.post here.now.level.read alloc tokens ask result after → Asked here.now.level.at ask tokens.now result after.now }
     requires whole_callable { G.IsAlwaysCallable here.now.whole }

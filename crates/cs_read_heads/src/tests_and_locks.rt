@@ -7,22 +7,22 @@ ghost use Rattle.cs_read_calls.specs.Asked.{inner_of, Asked};
 ghost use Rattle.cs_read_actions.specs.Place.{WholeRead};
 
 use crate::kinds::{KW_DO, KW_ELSE, KW_IF, KW_LOCK, KW_WHILE};
-use cs_grammar::{Cursor, Fault, begins, expect};
+use cs_grammar::Fault;
+use cs_lex::{Cursor, begins, expect};
 use cs_productions::Measured;
 use cs_read_actions::{Place, expression};
 use cs_read_calls::{Ask, Got, Level};
 use cs_read_types::kinds::{PAREN, SEMICOLON, UNPAREN};
 use cs_read_types::place;
-use cs_token::Token;
 use cs_tree::{Block, Syntax};
 use dc_base::Or;
 use std::alloc::Global;
 
 /// An expression in parentheses.
-pub fn tested<F, G: Fn(Global, &mut Cursor<Token>) -> Result<Measured, Or<Fault>>>(
+pub fn tested<F, G: Fn(Global, &mut Cursor) -> Result<Measured, Or<Fault>>>(
     here: &Place<F, G>,
     alloc: Global,
-    tokens: &mut Cursor<Token>,
+    tokens: &mut Cursor,
 ) -> Result<Measured, Or<Fault>>
     requires whole_callable { G.IsAlwaysCallable here.now.whole }
     requires whole_exact { (alloc : _) (tokens : _) (result : _) (after : _) → G.post here.now.whole alloc tokens result after → WholeRead here.now.level.at tokens.now result after.now }
@@ -34,10 +34,10 @@ pub fn tested<F, G: Fn(Global, &mut Cursor<Token>) -> Result<Measured, Or<Fault>
     Ok(test)
 }
 
-fn keyword_block<F: Fn(Global, &mut Cursor<Token>, Ask) -> Result<Got, Or<Fault>>>(
+fn keyword_block<F: Fn(Global, &mut Cursor, Ask) -> Result<Got, Or<Fault>>>(
     level: &Level<F>,
     alloc: Global,
-    tokens: &mut Cursor<Token>,
+    tokens: &mut Cursor,
     keyword: u16,
 ) -> Result<Option<Block>, Or<Fault>>
     requires callable { F.IsAlwaysCallable level.now.read }
@@ -50,10 +50,10 @@ fn keyword_block<F: Fn(Global, &mut Cursor<Token>, Ask) -> Result<Got, Or<Fault>
 }
 
 /// A block behind this keyword, where it stands.
-pub fn maybe_block<F: Fn(Global, &mut Cursor<Token>, Ask) -> Result<Got, Or<Fault>>>(
+pub fn maybe_block<F: Fn(Global, &mut Cursor, Ask) -> Result<Got, Or<Fault>>>(
     level: &Level<F>,
     alloc: Global,
-    tokens: &mut Cursor<Token>,
+    tokens: &mut Cursor,
     keyword: u16,
 ) -> Result<Option<Block>, Or<Fault>>
     requires callable { F.IsAlwaysCallable level.now.read }
@@ -68,9 +68,9 @@ pub fn maybe_block<F: Fn(Global, &mut Cursor<Token>, Ask) -> Result<Got, Or<Faul
 
 /// `if (a) { } else { }`
 pub fn of_if<
-    F: Fn(Global, &mut Cursor<Token>, Ask) -> Result<Got, Or<Fault>>,
-    G: Fn(Global, &mut Cursor<Token>) -> Result<Measured, Or<Fault>>,
->(here: &Place<F, G>, alloc: Global, tokens: &mut Cursor<Token>) -> Result<Syntax, Or<Fault>>
+    F: Fn(Global, &mut Cursor, Ask) -> Result<Got, Or<Fault>>,
+    G: Fn(Global, &mut Cursor) -> Result<Measured, Or<Fault>>,
+>(here: &Place<F, G>, alloc: Global, tokens: &mut Cursor) -> Result<Syntax, Or<Fault>>
     requires callable { F.IsAlwaysCallable here.now.level.read }
     requires exact { (alloc : _) (tokens : _) (ask : _) (result : _) (after : _) → F.post here.now.level.read alloc tokens ask result after → Asked here.now.level.at ask tokens.now result after.now }
     requires whole_callable { G.IsAlwaysCallable here.now.whole }
@@ -91,9 +91,9 @@ pub fn of_if<
 
 /// `while (a) { }`
 pub fn of_while<
-    F: Fn(Global, &mut Cursor<Token>, Ask) -> Result<Got, Or<Fault>>,
-    G: Fn(Global, &mut Cursor<Token>) -> Result<Measured, Or<Fault>>,
->(here: &Place<F, G>, alloc: Global, tokens: &mut Cursor<Token>) -> Result<Syntax, Or<Fault>>
+    F: Fn(Global, &mut Cursor, Ask) -> Result<Got, Or<Fault>>,
+    G: Fn(Global, &mut Cursor) -> Result<Measured, Or<Fault>>,
+>(here: &Place<F, G>, alloc: Global, tokens: &mut Cursor) -> Result<Syntax, Or<Fault>>
     requires callable { F.IsAlwaysCallable here.now.level.read }
     requires exact { (alloc : _) (tokens : _) (ask : _) (result : _) (after : _) → F.post here.now.level.read alloc tokens ask result after → Asked here.now.level.at ask tokens.now result after.now }
     requires whole_callable { G.IsAlwaysCallable here.now.whole }
@@ -112,9 +112,9 @@ pub fn of_while<
 
 /// `do { } while (a);`
 pub fn of_do<
-    F: Fn(Global, &mut Cursor<Token>, Ask) -> Result<Got, Or<Fault>>,
-    G: Fn(Global, &mut Cursor<Token>) -> Result<Measured, Or<Fault>>,
->(here: &Place<F, G>, alloc: Global, tokens: &mut Cursor<Token>) -> Result<Syntax, Or<Fault>>
+    F: Fn(Global, &mut Cursor, Ask) -> Result<Got, Or<Fault>>,
+    G: Fn(Global, &mut Cursor) -> Result<Measured, Or<Fault>>,
+>(here: &Place<F, G>, alloc: Global, tokens: &mut Cursor) -> Result<Syntax, Or<Fault>>
     requires callable { F.IsAlwaysCallable here.now.level.read }
     requires exact { (alloc : _) (tokens : _) (ask : _) (result : _) (after : _) → F.post here.now.level.read alloc tokens ask result after → Asked here.now.level.at ask tokens.now result after.now }
     requires whole_callable { G.IsAlwaysCallable here.now.whole }
@@ -135,9 +135,9 @@ pub fn of_do<
 
 /// `lock (a) { }`
 pub fn of_lock<
-    F: Fn(Global, &mut Cursor<Token>, Ask) -> Result<Got, Or<Fault>>,
-    G: Fn(Global, &mut Cursor<Token>) -> Result<Measured, Or<Fault>>,
->(here: &Place<F, G>, alloc: Global, tokens: &mut Cursor<Token>) -> Result<Syntax, Or<Fault>>
+    F: Fn(Global, &mut Cursor, Ask) -> Result<Got, Or<Fault>>,
+    G: Fn(Global, &mut Cursor) -> Result<Measured, Or<Fault>>,
+>(here: &Place<F, G>, alloc: Global, tokens: &mut Cursor) -> Result<Syntax, Or<Fault>>
     requires callable { F.IsAlwaysCallable here.now.level.read }
     requires exact { (alloc : _) (tokens : _) (ask : _) (result : _) (after : _) → F.post here.now.level.read alloc tokens ask result after → Asked here.now.level.at ask tokens.now result after.now }
     requires whole_callable { G.IsAlwaysCallable here.now.whole }

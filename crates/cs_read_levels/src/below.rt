@@ -10,13 +10,13 @@ ghost use Rattle.cs_read_calls.specs.Asked.{inner_of, Asked};
 ghost use Rattle.cs_read_actions.specs.Place.{WholeRead};
 
 use crate::last::{deeper, led_alone, lower, name_alone};
-use cs_grammar::{Cursor, Fault};
+use cs_grammar::Fault;
+use cs_lex::Cursor;
 use cs_productions::{Lead, Measured, Part};
 use cs_read_actions::Place;
 use cs_read_calls::{Ask, Depth, Got, Level};
 use cs_read_forms::{form, lead};
 use cs_read_statements::{block as block_behind, empty_block};
-use cs_token::Token;
 use cs_tree::Block;
 use dc_base::Or;
 use std::alloc::Global;
@@ -25,7 +25,7 @@ use std::alloc::Global;
 #[cycle(levels)]
 pub fn read_below(
     alloc: Global,
-    tokens: &mut Cursor<Token>,
+    tokens: &mut Cursor,
     at: Depth,
     ask: Ask,
 ) -> Result<Got, Or<Fault>>
@@ -41,7 +41,7 @@ pub fn read_below(
 #[cycle(levels)]
 fn form_below(
     alloc: Global,
-    tokens: &mut Cursor<Token>,
+    tokens: &mut Cursor,
     at: Depth,
     part: Part,
 ) -> Result<Measured, Or<Fault>>
@@ -54,7 +54,7 @@ fn form_below(
 }
 
 #[cycle(levels)]
-fn lead_below(alloc: Global, tokens: &mut Cursor<Token>, at: Depth) -> Result<Lead, Or<Fault>>
+fn lead_below(alloc: Global, tokens: &mut Cursor, at: Depth) -> Result<Lead, Or<Fault>>
     ensures { Reads ((inner_of at).lead.reads tokens.old) result tokens.new }
 {
     if at.left == 0 {
@@ -64,7 +64,7 @@ fn lead_below(alloc: Global, tokens: &mut Cursor<Token>, at: Depth) -> Result<Le
 }
 
 #[cycle(levels)]
-fn block_below(alloc: Global, tokens: &mut Cursor<Token>, at: Depth) -> Result<Block, Or<Fault>>
+fn block_below(alloc: Global, tokens: &mut Cursor, at: Depth) -> Result<Block, Or<Fault>>
     ensures { Reads ((inner_of at).block.reads tokens.old) result tokens.new }
 {
     if at.blocks == 0 {
@@ -77,7 +77,7 @@ fn block_below(alloc: Global, tokens: &mut Cursor<Token>, at: Depth) -> Result<B
 #[cycle(levels)]
 fn form_at(
     alloc: Global,
-    tokens: &mut Cursor<Token>,
+    tokens: &mut Cursor,
     at: Depth,
     part: Part,
 ) -> Result<Measured, Or<Fault>>
@@ -85,7 +85,7 @@ fn form_at(
 {
     let level = Level {
         at,
-        read: |alloc: Global, tokens: &mut Cursor<Token>, ask: Ask| -> Result<Got, Or<Fault>>
+        read: |alloc: Global, tokens: &mut Cursor, ask: Ask| -> Result<Got, Or<Fault>>
             ensures { Asked at ask tokens.old result tokens.new }
         { read_below(alloc, tokens, at, ask) },
     };
@@ -93,12 +93,12 @@ fn form_at(
 }
 
 #[cycle(levels)]
-fn lead_at(alloc: Global, tokens: &mut Cursor<Token>, at: Depth) -> Result<Lead, Or<Fault>>
+fn lead_at(alloc: Global, tokens: &mut Cursor, at: Depth) -> Result<Lead, Or<Fault>>
     ensures { Reads ((lead_of at.left (inner_of at)).reads tokens.old) result tokens.new }
 {
     let level = Level {
         at,
-        read: |alloc: Global, tokens: &mut Cursor<Token>, ask: Ask| -> Result<Got, Or<Fault>>
+        read: |alloc: Global, tokens: &mut Cursor, ask: Ask| -> Result<Got, Or<Fault>>
             ensures { Asked at ask tokens.old result tokens.new }
         { read_below(alloc, tokens, at, ask) },
     };
@@ -107,17 +107,17 @@ fn lead_at(alloc: Global, tokens: &mut Cursor<Token>, at: Depth) -> Result<Lead,
 
 /// Reads a block whose statements stand at this place.
 #[cycle(levels)]
-fn block_at(alloc: Global, tokens: &mut Cursor<Token>, at: Depth) -> Result<Block, Or<Fault>>
+fn block_at(alloc: Global, tokens: &mut Cursor, at: Depth) -> Result<Block, Or<Fault>>
     requires { at.left ≡ at.levels }
     ensures { Reads ((block_of at.levels at.ranks (at.blocks + 1)).reads tokens.old) result tokens.new }
 {
     let level = Level {
         at,
-        read: |alloc: Global, tokens: &mut Cursor<Token>, ask: Ask| -> Result<Got, Or<Fault>>
+        read: |alloc: Global, tokens: &mut Cursor, ask: Ask| -> Result<Got, Or<Fault>>
             ensures { Asked at ask tokens.old result tokens.new }
         { read_below(alloc, tokens, at, ask) },
     };
-    let whole = |alloc: Global, tokens: &mut Cursor<Token>| -> Result<Measured, Or<Fault>>
+    let whole = |alloc: Global, tokens: &mut Cursor| -> Result<Measured, Or<Fault>>
         ensures { WholeRead at tokens.old result tokens.new }
     { form_at(alloc, tokens, at, Part::Whole) };
     block_behind(&Place { level, whole }, alloc, tokens)
@@ -126,7 +126,7 @@ fn block_at(alloc: Global, tokens: &mut Cursor<Token>, at: Depth) -> Result<Bloc
 /// Reads an expression at this place: of at most so many levels as are left.
 pub fn expression(
     alloc: Global,
-    tokens: &mut Cursor<Token>,
+    tokens: &mut Cursor,
     at: Depth,
 ) -> Result<Measured, Or<Fault>>
     ensures { Reads ((expression_of at.left (inner_of at)).reads tokens.old) result tokens.new }
@@ -135,7 +135,7 @@ pub fn expression(
 }
 
 /// Reads a block: with it, at most so many blocks are open in one another as are left, and an expression in it has at most all levels.
-pub fn block(alloc: Global, tokens: &mut Cursor<Token>, at: Depth) -> Result<Block, Or<Fault>>
+pub fn block(alloc: Global, tokens: &mut Cursor, at: Depth) -> Result<Block, Or<Fault>>
     ensures { Reads ((block_of at.levels at.ranks at.blocks).reads tokens.old) result tokens.new }
 {
     block_below(alloc, tokens, at)

@@ -4,11 +4,11 @@ ghost use Rattle.std.specs.Prelude.{◌≡◌, ◌+◌, ◌<◌};
 ghost use Rattle.cs_grammar.specs.Reads.{Reads};
 ghost use Rattle.cs_productions.specs.Levels.{name_alone as name_alone_of, led_alone as led_alone_of};
 
-use cs_grammar::{Cursor, Fault, take_one};
+use cs_grammar::Fault;
+use cs_lex::{Cursor, take_one};
 use cs_productions::{Lead, Measured};
 use cs_read_calls::{Depth, leaf};
 use cs_read_types::{global_leaf, spot, text};
-use cs_token::Token;
 use cs_tree::Form;
 use dc_base::Or;
 use std::alloc::Global;
@@ -17,17 +17,17 @@ use std::alloc::Global;
 const NAME: u16 = 0;
 
 /// A name, which is never asked for.
-pub(crate) fn name_alone(alloc: Global, tokens: &mut Cursor<Token>) -> Result<Measured, Or<Fault>>
+pub(crate) fn name_alone(alloc: Global, tokens: &mut Cursor) -> Result<Measured, Or<Fault>>
     ensures { Reads (name_alone_of.reads tokens.old) result tokens.new }
 {
     let token = take_one(tokens, &[NAME])?;
-    let text = text(alloc, token)?;
-    let spot = spot(token);
+    let text = text(alloc, &token)?;
+    let spot = spot(&token);
     Ok(leaf(Form::Name { spot, text }, spot))
 }
 
 /// The name `global`, which is never asked for.
-pub(crate) fn led_alone(alloc: Global, tokens: &mut Cursor<Token>) -> Result<Lead, Or<Fault>>
+pub(crate) fn led_alone(alloc: Global, tokens: &mut Cursor) -> Result<Lead, Or<Fault>>
     ensures { Reads (led_alone_of.reads tokens.old) result tokens.new }
 {
     let read = global_leaf(alloc, tokens)?;

@@ -11,7 +11,5 @@
 
 mod below;
 mod last;
-mod lists;
 
 pub use below::{block, expression, read_below};
-pub use lists::{read_block, read_expression};

@@ -6,22 +6,22 @@ ghost use Rattle.cs_units.specs.Members.{accessor as accessor_of, without_setter
 ghost use Rattle.cs_read_calls.specs.Asked.{inner_of, Asked};
 
 use crate::parts::{body, limit};
-use cs_grammar::{Cursor, Fault, begins, expect};
+use cs_grammar::Fault;
+use cs_lex::{Cursor, begins, expect};
 use cs_read_calls::{Ask, Got, Level};
 use cs_read_modifiers::kinds::{GETTER, SETTER};
 use cs_read_modifiers::{is_unmarked, modifiers, start};
 use cs_read_types::kinds::{BRACE, BRACKET, UNBRACE, UNBRACKET};
 use cs_read_types::{any_name, place, ty};
-use cs_token::Token;
 use cs_tree::{Accessor, Member, Name, Spot, TypeForm};
 use cs_units::{Accessors, Marked};
 use dc_base::Or;
 use std::alloc::Global;
 
-fn accessor<F: Fn(Global, &mut Cursor<Token>, Ask) -> Result<Got, Or<Fault>>>(
+fn accessor<F: Fn(Global, &mut Cursor, Ask) -> Result<Got, Or<Fault>>>(
     level: &Level<F>,
     alloc: Global,
-    tokens: &mut Cursor<Token>,
+    tokens: &mut Cursor,
     word: u16,
     marked: Marked,
 ) -> Result<Accessor, Or<Fault>>
@@ -40,7 +40,7 @@ fn accessor<F: Fn(Global, &mut Cursor<Token>, Ask) -> Result<Got, Or<Fault>>>(
 
 /// The end of a property that has no setter.
 pub fn without_setter(
-    tokens: &mut Cursor<Token>,
+    tokens: &mut Cursor,
     getter: Option<Accessor>,
 ) -> Result<Accessors, Or<Fault>>
     ensures { Reads ((without_setter_of getter).reads tokens.old) result tokens.new }
@@ -52,10 +52,10 @@ pub fn without_setter(
     })
 }
 
-fn with_setter<F: Fn(Global, &mut Cursor<Token>, Ask) -> Result<Got, Or<Fault>>>(
+fn with_setter<F: Fn(Global, &mut Cursor, Ask) -> Result<Got, Or<Fault>>>(
     level: &Level<F>,
     alloc: Global,
-    tokens: &mut Cursor<Token>,
+    tokens: &mut Cursor,
     getter: Option<Accessor>,
     marked: Marked,
 ) -> Result<Accessors, Or<Fault>>
@@ -71,10 +71,10 @@ fn with_setter<F: Fn(Global, &mut Cursor<Token>, Ask) -> Result<Got, Or<Fault>>>
     })
 }
 
-fn behind_getter<F: Fn(Global, &mut Cursor<Token>, Ask) -> Result<Got, Or<Fault>>>(
+fn behind_getter<F: Fn(Global, &mut Cursor, Ask) -> Result<Got, Or<Fault>>>(
     level: &Level<F>,
     alloc: Global,
-    tokens: &mut Cursor<Token>,
+    tokens: &mut Cursor,
     getter: Option<Accessor>,
     marked: Marked,
 ) -> Result<Accessors, Or<Fault>>
@@ -88,10 +88,10 @@ fn behind_getter<F: Fn(Global, &mut Cursor<Token>, Ask) -> Result<Got, Or<Fault>
     with_setter(level, alloc, tokens, getter, marked)
 }
 
-fn with_getter<F: Fn(Global, &mut Cursor<Token>, Ask) -> Result<Got, Or<Fault>>>(
+fn with_getter<F: Fn(Global, &mut Cursor, Ask) -> Result<Got, Or<Fault>>>(
     level: &Level<F>,
     alloc: Global,
-    tokens: &mut Cursor<Token>,
+    tokens: &mut Cursor,
     marked: Marked,
 ) -> Result<Accessors, Or<Fault>>
     requires callable { F.IsAlwaysCallable level.now.read }
@@ -103,10 +103,10 @@ fn with_getter<F: Fn(Global, &mut Cursor<Token>, Ask) -> Result<Got, Or<Fault>>>
     behind_getter(level, alloc, tokens, Some(getter), more)
 }
 
-fn first_accessor<F: Fn(Global, &mut Cursor<Token>, Ask) -> Result<Got, Or<Fault>>>(
+fn first_accessor<F: Fn(Global, &mut Cursor, Ask) -> Result<Got, Or<Fault>>>(
     level: &Level<F>,
     alloc: Global,
-    tokens: &mut Cursor<Token>,
+    tokens: &mut Cursor,
     marked: Marked,
 ) -> Result<Accessors, Or<Fault>>
     requires callable { F.IsAlwaysCallable level.now.read }
@@ -119,10 +119,10 @@ fn first_accessor<F: Fn(Global, &mut Cursor<Token>, Ask) -> Result<Got, Or<Fault
     behind_getter(level, alloc, tokens, None, marked)
 }
 
-fn accessors<F: Fn(Global, &mut Cursor<Token>, Ask) -> Result<Got, Or<Fault>>>(
+fn accessors<F: Fn(Global, &mut Cursor, Ask) -> Result<Got, Or<Fault>>>(
     level: &Level<F>,
     alloc: Global,
-    tokens: &mut Cursor<Token>,
+    tokens: &mut Cursor,
 ) -> Result<Accessors, Or<Fault>>
     requires callable { F.IsAlwaysCallable level.now.read }
     requires exact { (alloc : _) (tokens : _) (ask : _) (result : _) (after : _) → F.post level.now.read alloc tokens ask result after → Asked level.now.at ask tokens.now result after.now }
@@ -134,10 +134,10 @@ fn accessors<F: Fn(Global, &mut Cursor<Token>, Ask) -> Result<Got, Or<Fault>>>(
 }
 
 /// What stands behind the name of a property.
-pub(crate) fn property<F: Fn(Global, &mut Cursor<Token>, Ask) -> Result<Got, Or<Fault>>>(
+pub(crate) fn property<F: Fn(Global, &mut Cursor, Ask) -> Result<Got, Or<Fault>>>(
     level: &Level<F>,
     alloc: Global,
-    tokens: &mut Cursor<Token>,
+    tokens: &mut Cursor,
     marked: Marked,
     ty: TypeForm,
     name: Name,
@@ -159,10 +159,10 @@ pub(crate) fn property<F: Fn(Global, &mut Cursor<Token>, Ask) -> Result<Got, Or<
 }
 
 /// What stands behind the `indexer` of an indexer.
-pub(crate) fn indexing<F: Fn(Global, &mut Cursor<Token>, Ask) -> Result<Got, Or<Fault>>>(
+pub(crate) fn indexing<F: Fn(Global, &mut Cursor, Ask) -> Result<Got, Or<Fault>>>(
     level: &Level<F>,
     alloc: Global,
-    tokens: &mut Cursor<Token>,
+    tokens: &mut Cursor,
     marked: Marked,
     at: Spot,
 ) -> Result<Member, Or<Fault>>

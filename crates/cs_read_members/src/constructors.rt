@@ -10,20 +10,20 @@ ghost use Rattle.cs_units.specs.Members.{are_none, by_base as by_base_of, by_thi
 ghost use Rattle.cs_read_calls.specs.Asked.{inner_of, Asked};
 
 use crate::parts::{are_no, limit, params};
-use cs_grammar::{Cursor, Fault, begins, expect};
+use cs_grammar::Fault;
+use cs_lex::{Cursor, begins, expect};
 use cs_read_calls::{Ask, Got, Level};
 use cs_read_modifiers::{is_only_static, start};
 use cs_read_types::kinds::{BRACE, COLON, KW_BASE, KW_THIS, SEMICOLON};
-use cs_token::Token;
 use cs_tree::{Initial, Member, Name, Param};
 use cs_units::Marked;
 use dc_base::{Or, Seq};
 use std::alloc::Global;
 
-fn by_base<F: Fn(Global, &mut Cursor<Token>, Ask) -> Result<Got, Or<Fault>>>(
+fn by_base<F: Fn(Global, &mut Cursor, Ask) -> Result<Got, Or<Fault>>>(
     level: &Level<F>,
     alloc: Global,
-    tokens: &mut Cursor<Token>,
+    tokens: &mut Cursor,
 ) -> Result<Initial, Or<Fault>>
     requires callable { F.IsAlwaysCallable level.now.read }
     requires exact { (alloc : _) (tokens : _) (ask : _) (result : _) (after : _) → F.post level.now.read alloc tokens ask result after → Asked level.now.at ask tokens.now result after.now }
@@ -34,10 +34,10 @@ fn by_base<F: Fn(Global, &mut Cursor<Token>, Ask) -> Result<Got, Or<Fault>>>(
     Ok(Initial::Base { args })
 }
 
-fn by_this<F: Fn(Global, &mut Cursor<Token>, Ask) -> Result<Got, Or<Fault>>>(
+fn by_this<F: Fn(Global, &mut Cursor, Ask) -> Result<Got, Or<Fault>>>(
     level: &Level<F>,
     alloc: Global,
-    tokens: &mut Cursor<Token>,
+    tokens: &mut Cursor,
 ) -> Result<Initial, Or<Fault>>
     requires callable { F.IsAlwaysCallable level.now.read }
     requires exact { (alloc : _) (tokens : _) (ask : _) (result : _) (after : _) → F.post level.now.read alloc tokens ask result after → Asked level.now.at ask tokens.now result after.now }
@@ -48,10 +48,10 @@ fn by_this<F: Fn(Global, &mut Cursor<Token>, Ask) -> Result<Got, Or<Fault>>>(
     Ok(Initial::This { args })
 }
 
-fn initial<F: Fn(Global, &mut Cursor<Token>, Ask) -> Result<Got, Or<Fault>>>(
+fn initial<F: Fn(Global, &mut Cursor, Ask) -> Result<Got, Or<Fault>>>(
     level: &Level<F>,
     alloc: Global,
-    tokens: &mut Cursor<Token>,
+    tokens: &mut Cursor,
 ) -> Result<Initial, Or<Fault>>
     requires callable { F.IsAlwaysCallable level.now.read }
     requires exact { (alloc : _) (tokens : _) (ask : _) (result : _) (after : _) → F.post level.now.read alloc tokens ask result after → Asked level.now.at ask tokens.now result after.now }
@@ -63,10 +63,10 @@ fn initial<F: Fn(Global, &mut Cursor<Token>, Ask) -> Result<Got, Or<Fault>>>(
     by_this(level, alloc, tokens)
 }
 
-fn constructor<F: Fn(Global, &mut Cursor<Token>, Ask) -> Result<Got, Or<Fault>>>(
+fn constructor<F: Fn(Global, &mut Cursor, Ask) -> Result<Got, Or<Fault>>>(
     level: &Level<F>,
     alloc: Global,
-    tokens: &mut Cursor<Token>,
+    tokens: &mut Cursor,
     marked: Marked,
     name: Name,
     params: Seq<Param>,
@@ -89,10 +89,10 @@ fn constructor<F: Fn(Global, &mut Cursor<Token>, Ask) -> Result<Got, Or<Fault>>>
     })
 }
 
-fn initializer<F: Fn(Global, &mut Cursor<Token>, Ask) -> Result<Got, Or<Fault>>>(
+fn initializer<F: Fn(Global, &mut Cursor, Ask) -> Result<Got, Or<Fault>>>(
     level: &Level<F>,
     alloc: Global,
-    tokens: &mut Cursor<Token>,
+    tokens: &mut Cursor,
     marked: Marked,
     name: Name,
 ) -> Result<Member, Or<Fault>>
@@ -111,7 +111,7 @@ fn initializer<F: Fn(Global, &mut Cursor<Token>, Ask) -> Result<Got, Or<Fault>>>
 
 /// The end of a constructor without a block.
 pub fn maker(
-    tokens: &mut Cursor<Token>,
+    tokens: &mut Cursor,
     marked: Marked,
     name: Name,
     params: Seq<Param>,
@@ -127,10 +127,10 @@ pub fn maker(
     })
 }
 
-fn without_initial<F: Fn(Global, &mut Cursor<Token>, Ask) -> Result<Got, Or<Fault>>>(
+fn without_initial<F: Fn(Global, &mut Cursor, Ask) -> Result<Got, Or<Fault>>>(
     level: &Level<F>,
     alloc: Global,
-    tokens: &mut Cursor<Token>,
+    tokens: &mut Cursor,
     marked: Marked,
     name: Name,
     params: Seq<Param>,
@@ -146,10 +146,10 @@ fn without_initial<F: Fn(Global, &mut Cursor<Token>, Ask) -> Result<Got, Or<Faul
     maker(tokens, marked, name, params)
 }
 
-fn behind_params<F: Fn(Global, &mut Cursor<Token>, Ask) -> Result<Got, Or<Fault>>>(
+fn behind_params<F: Fn(Global, &mut Cursor, Ask) -> Result<Got, Or<Fault>>>(
     level: &Level<F>,
     alloc: Global,
-    tokens: &mut Cursor<Token>,
+    tokens: &mut Cursor,
     marked: Marked,
     name: Name,
     params: Seq<Param>,
@@ -165,10 +165,10 @@ fn behind_params<F: Fn(Global, &mut Cursor<Token>, Ask) -> Result<Got, Or<Fault>
 }
 
 /// What stands behind the name of a constructor.
-pub(crate) fn constructing<F: Fn(Global, &mut Cursor<Token>, Ask) -> Result<Got, Or<Fault>>>(
+pub(crate) fn constructing<F: Fn(Global, &mut Cursor, Ask) -> Result<Got, Or<Fault>>>(
     level: &Level<F>,
     alloc: Global,
-    tokens: &mut Cursor<Token>,
+    tokens: &mut Cursor,
     marked: Marked,
     name: Name,
 ) -> Result<Member, Or<Fault>>

@@ -10,23 +10,23 @@ ghost use Rattle.cs_units.specs.Members.{first_value as first_value_of, field as
 ghost use Rattle.cs_read_calls.specs.Asked.{inner_of, Asked};
 
 use crate::parts::{limit, params};
-use cs_grammar::{Cursor, Fault, begins, expect};
+use cs_grammar::Fault;
+use cs_lex::{Cursor, begins, expect};
 use cs_productions::Part;
 use cs_read_calls::{Ask, Got, Level};
 use cs_read_modifiers::kinds::{KW_CONST, KW_OPERATOR};
 use cs_read_modifiers::start;
 use cs_read_types::kinds::{EQUALS, SEMICOLON};
 use cs_read_types::{any_name, place, ty};
-use cs_token::Token;
 use cs_tree::{Form, Member, Name, Spot, TypeForm};
 use cs_units::Marked;
 use dc_base::Or;
 use std::alloc::Global;
 
-fn first_value<F: Fn(Global, &mut Cursor<Token>, Ask) -> Result<Got, Or<Fault>>>(
+fn first_value<F: Fn(Global, &mut Cursor, Ask) -> Result<Got, Or<Fault>>>(
     level: &Level<F>,
     alloc: Global,
-    tokens: &mut Cursor<Token>,
+    tokens: &mut Cursor,
 ) -> Result<Option<Form>, Or<Fault>>
     requires callable { F.IsAlwaysCallable level.now.read }
     requires exact { (alloc : _) (tokens : _) (ask : _) (result : _) (after : _) → F.post level.now.read alloc tokens ask result after → Asked level.now.at ask tokens.now result after.now }
@@ -38,10 +38,10 @@ fn first_value<F: Fn(Global, &mut Cursor<Token>, Ask) -> Result<Got, Or<Fault>>>
     Ok(Some(value.form))
 }
 
-fn value<F: Fn(Global, &mut Cursor<Token>, Ask) -> Result<Got, Or<Fault>>>(
+fn value<F: Fn(Global, &mut Cursor, Ask) -> Result<Got, Or<Fault>>>(
     level: &Level<F>,
     alloc: Global,
-    tokens: &mut Cursor<Token>,
+    tokens: &mut Cursor,
 ) -> Result<Option<Form>, Or<Fault>>
     requires callable { F.IsAlwaysCallable level.now.read }
     requires exact { (alloc : _) (tokens : _) (ask : _) (result : _) (after : _) → F.post level.now.read alloc tokens ask result after → Asked level.now.at ask tokens.now result after.now }
@@ -55,10 +55,10 @@ fn value<F: Fn(Global, &mut Cursor<Token>, Ask) -> Result<Got, Or<Fault>>>(
 }
 
 /// What stands behind the name of a field.
-pub(crate) fn field<F: Fn(Global, &mut Cursor<Token>, Ask) -> Result<Got, Or<Fault>>>(
+pub(crate) fn field<F: Fn(Global, &mut Cursor, Ask) -> Result<Got, Or<Fault>>>(
     level: &Level<F>,
     alloc: Global,
-    tokens: &mut Cursor<Token>,
+    tokens: &mut Cursor,
     marked: Marked,
     ty: TypeForm,
     name: Name,
@@ -79,10 +79,10 @@ pub(crate) fn field<F: Fn(Global, &mut Cursor<Token>, Ask) -> Result<Got, Or<Fau
 }
 
 /// `const int X = 5;`
-pub(crate) fn constant<F: Fn(Global, &mut Cursor<Token>, Ask) -> Result<Got, Or<Fault>>>(
+pub(crate) fn constant<F: Fn(Global, &mut Cursor, Ask) -> Result<Got, Or<Fault>>>(
     level: &Level<F>,
     alloc: Global,
-    tokens: &mut Cursor<Token>,
+    tokens: &mut Cursor,
     marked: Marked,
 ) -> Result<Member, Or<Fault>>
     requires callable { F.IsAlwaysCallable level.now.read }
@@ -106,10 +106,10 @@ pub(crate) fn constant<F: Fn(Global, &mut Cursor<Token>, Ask) -> Result<Got, Or<
 }
 
 /// `operator bool op_Equality(int a, int b);`
-pub(crate) fn operator<F: Fn(Global, &mut Cursor<Token>, Ask) -> Result<Got, Or<Fault>>>(
+pub(crate) fn operator<F: Fn(Global, &mut Cursor, Ask) -> Result<Got, Or<Fault>>>(
     level: &Level<F>,
     alloc: Global,
-    tokens: &mut Cursor<Token>,
+    tokens: &mut Cursor,
 ) -> Result<Member, Or<Fault>>
     requires callable { F.IsAlwaysCallable level.now.read }
     requires exact { (alloc : _) (tokens : _) (ask : _) (result : _) (after : _) → F.post level.now.read alloc tokens ask result after → Asked level.now.at ask tokens.now result after.now }

@@ -15,22 +15,22 @@ use crate::constructors::constructing;
 use crate::fields::{constant, field, operator};
 use crate::methods::{implementing, method};
 use crate::parts::{limit, named};
-use cs_grammar::{Cursor, Fault, begins, expect};
+use cs_grammar::Fault;
+use cs_lex::{Cursor, begins, expect};
 use cs_read_calls::{Ask, Got, Level};
 use cs_read_modifiers::kinds::{INDEXER, KW_OPERATOR, KW_VOID, MAKERS, PLAIN_NAMES};
 use cs_read_modifiers::{is_unmarked, start};
 use cs_read_types::kinds::{COLONS, EQUALS, GLOBAL, KEYWORD_TYPES, PAREN, SEMICOLON};
 use cs_read_types::{path, place, ranks, type_of_keyword};
-use cs_token::Token;
 use cs_tree::{Member, Name, Spot, TypeForm, TypeName};
 use cs_units::Marked;
 use dc_base::Or;
 use std::alloc::Global;
 
-fn method_or_property<F: Fn(Global, &mut Cursor<Token>, Ask) -> Result<Got, Or<Fault>>>(
+fn method_or_property<F: Fn(Global, &mut Cursor, Ask) -> Result<Got, Or<Fault>>>(
     level: &Level<F>,
     alloc: Global,
-    tokens: &mut Cursor<Token>,
+    tokens: &mut Cursor,
     marked: Marked,
     ty: TypeForm,
     name: Name,
@@ -46,10 +46,10 @@ fn method_or_property<F: Fn(Global, &mut Cursor<Token>, Ask) -> Result<Got, Or<F
     property(level, alloc, tokens, marked, ty, name)
 }
 
-fn behind_name<F: Fn(Global, &mut Cursor<Token>, Ask) -> Result<Got, Or<Fault>>>(
+fn behind_name<F: Fn(Global, &mut Cursor, Ask) -> Result<Got, Or<Fault>>>(
     level: &Level<F>,
     alloc: Global,
-    tokens: &mut Cursor<Token>,
+    tokens: &mut Cursor,
     marked: Marked,
     ty: TypeForm,
     name: Name,
@@ -64,10 +64,10 @@ fn behind_name<F: Fn(Global, &mut Cursor<Token>, Ask) -> Result<Got, Or<Fault>>>
     method_or_property(level, alloc, tokens, marked, ty, name)
 }
 
-fn global_behind<F: Fn(Global, &mut Cursor<Token>, Ask) -> Result<Got, Or<Fault>>>(
+fn global_behind<F: Fn(Global, &mut Cursor, Ask) -> Result<Got, Or<Fault>>>(
     level: &Level<F>,
     alloc: Global,
-    tokens: &mut Cursor<Token>,
+    tokens: &mut Cursor,
     marked: Marked,
     ty: TypeForm,
 ) -> Result<Member, Or<Fault>>
@@ -83,10 +83,10 @@ fn global_behind<F: Fn(Global, &mut Cursor<Token>, Ask) -> Result<Got, Or<Fault>
     behind_name(level, alloc, tokens, marked, ty, name)
 }
 
-fn name_behind<F: Fn(Global, &mut Cursor<Token>, Ask) -> Result<Got, Or<Fault>>>(
+fn name_behind<F: Fn(Global, &mut Cursor, Ask) -> Result<Got, Or<Fault>>>(
     level: &Level<F>,
     alloc: Global,
-    tokens: &mut Cursor<Token>,
+    tokens: &mut Cursor,
     marked: Marked,
     ty: TypeForm,
 ) -> Result<Member, Or<Fault>>
@@ -98,10 +98,10 @@ fn name_behind<F: Fn(Global, &mut Cursor<Token>, Ask) -> Result<Got, Or<Fault>>>
     behind_name(level, alloc, tokens, marked, ty, name)
 }
 
-fn behind_type<F: Fn(Global, &mut Cursor<Token>, Ask) -> Result<Got, Or<Fault>>>(
+fn behind_type<F: Fn(Global, &mut Cursor, Ask) -> Result<Got, Or<Fault>>>(
     level: &Level<F>,
     alloc: Global,
-    tokens: &mut Cursor<Token>,
+    tokens: &mut Cursor,
     marked: Marked,
     ty: TypeForm,
 ) -> Result<Member, Or<Fault>>
@@ -115,10 +115,10 @@ fn behind_type<F: Fn(Global, &mut Cursor<Token>, Ask) -> Result<Got, Or<Fault>>>
     name_behind(level, alloc, tokens, marked, ty)
 }
 
-fn void_global<F: Fn(Global, &mut Cursor<Token>, Ask) -> Result<Got, Or<Fault>>>(
+fn void_global<F: Fn(Global, &mut Cursor, Ask) -> Result<Got, Or<Fault>>>(
     level: &Level<F>,
     alloc: Global,
-    tokens: &mut Cursor<Token>,
+    tokens: &mut Cursor,
     marked: Marked,
     at: Spot,
 ) -> Result<Member, Or<Fault>>
@@ -134,10 +134,10 @@ fn void_global<F: Fn(Global, &mut Cursor<Token>, Ask) -> Result<Got, Or<Fault>>>
     method(level, alloc, tokens, spot, marked, None, None, name)
 }
 
-fn void_name<F: Fn(Global, &mut Cursor<Token>, Ask) -> Result<Got, Or<Fault>>>(
+fn void_name<F: Fn(Global, &mut Cursor, Ask) -> Result<Got, Or<Fault>>>(
     level: &Level<F>,
     alloc: Global,
-    tokens: &mut Cursor<Token>,
+    tokens: &mut Cursor,
     marked: Marked,
     at: Spot,
 ) -> Result<Member, Or<Fault>>
@@ -150,10 +150,10 @@ fn void_name<F: Fn(Global, &mut Cursor<Token>, Ask) -> Result<Got, Or<Fault>>>(
     method(level, alloc, tokens, spot, marked, None, None, name)
 }
 
-fn void_method<F: Fn(Global, &mut Cursor<Token>, Ask) -> Result<Got, Or<Fault>>>(
+fn void_method<F: Fn(Global, &mut Cursor, Ask) -> Result<Got, Or<Fault>>>(
     level: &Level<F>,
     alloc: Global,
-    tokens: &mut Cursor<Token>,
+    tokens: &mut Cursor,
     marked: Marked,
 ) -> Result<Member, Or<Fault>>
     requires callable { F.IsAlwaysCallable level.now.read }
@@ -167,10 +167,10 @@ fn void_method<F: Fn(Global, &mut Cursor<Token>, Ask) -> Result<Got, Or<Fault>>>
     void_name(level, alloc, tokens, marked, spot)
 }
 
-fn keyword_member<F: Fn(Global, &mut Cursor<Token>, Ask) -> Result<Got, Or<Fault>>>(
+fn keyword_member<F: Fn(Global, &mut Cursor, Ask) -> Result<Got, Or<Fault>>>(
     level: &Level<F>,
     alloc: Global,
-    tokens: &mut Cursor<Token>,
+    tokens: &mut Cursor,
     marked: Marked,
 ) -> Result<Member, Or<Fault>>
     requires callable { F.IsAlwaysCallable level.now.read }
@@ -181,10 +181,10 @@ fn keyword_member<F: Fn(Global, &mut Cursor<Token>, Ask) -> Result<Got, Or<Fault
     behind_type(level, alloc, tokens, marked, ty)
 }
 
-fn path_member<F: Fn(Global, &mut Cursor<Token>, Ask) -> Result<Got, Or<Fault>>>(
+fn path_member<F: Fn(Global, &mut Cursor, Ask) -> Result<Got, Or<Fault>>>(
     level: &Level<F>,
     alloc: Global,
-    tokens: &mut Cursor<Token>,
+    tokens: &mut Cursor,
     marked: Marked,
     spot: Spot,
 ) -> Result<Member, Or<Fault>>
@@ -203,10 +203,10 @@ fn path_member<F: Fn(Global, &mut Cursor<Token>, Ask) -> Result<Got, Or<Fault>>>
     behind_type(level, alloc, tokens, marked, ty)
 }
 
-fn global_member<F: Fn(Global, &mut Cursor<Token>, Ask) -> Result<Got, Or<Fault>>>(
+fn global_member<F: Fn(Global, &mut Cursor, Ask) -> Result<Got, Or<Fault>>>(
     level: &Level<F>,
     alloc: Global,
-    tokens: &mut Cursor<Token>,
+    tokens: &mut Cursor,
     marked: Marked,
 ) -> Result<Member, Or<Fault>>
     requires callable { F.IsAlwaysCallable level.now.read }
@@ -220,10 +220,10 @@ fn global_member<F: Fn(Global, &mut Cursor<Token>, Ask) -> Result<Got, Or<Fault>
     constructing(level, alloc, tokens, marked, name)
 }
 
-fn indexer_member<F: Fn(Global, &mut Cursor<Token>, Ask) -> Result<Got, Or<Fault>>>(
+fn indexer_member<F: Fn(Global, &mut Cursor, Ask) -> Result<Got, Or<Fault>>>(
     level: &Level<F>,
     alloc: Global,
-    tokens: &mut Cursor<Token>,
+    tokens: &mut Cursor,
     marked: Marked,
 ) -> Result<Member, Or<Fault>>
     requires callable { F.IsAlwaysCallable level.now.read }
@@ -237,10 +237,10 @@ fn indexer_member<F: Fn(Global, &mut Cursor<Token>, Ask) -> Result<Got, Or<Fault
     indexing(level, alloc, tokens, marked, name.spot)
 }
 
-fn named_member<F: Fn(Global, &mut Cursor<Token>, Ask) -> Result<Got, Or<Fault>>>(
+fn named_member<F: Fn(Global, &mut Cursor, Ask) -> Result<Got, Or<Fault>>>(
     level: &Level<F>,
     alloc: Global,
-    tokens: &mut Cursor<Token>,
+    tokens: &mut Cursor,
     marked: Marked,
 ) -> Result<Member, Or<Fault>>
     requires callable { F.IsAlwaysCallable level.now.read }
@@ -251,10 +251,10 @@ fn named_member<F: Fn(Global, &mut Cursor<Token>, Ask) -> Result<Got, Or<Fault>>
     constructing(level, alloc, tokens, marked, name)
 }
 
-fn operator_or_constant<F: Fn(Global, &mut Cursor<Token>, Ask) -> Result<Got, Or<Fault>>>(
+fn operator_or_constant<F: Fn(Global, &mut Cursor, Ask) -> Result<Got, Or<Fault>>>(
     level: &Level<F>,
     alloc: Global,
-    tokens: &mut Cursor<Token>,
+    tokens: &mut Cursor,
     marked: Marked,
 ) -> Result<Member, Or<Fault>>
     requires callable { F.IsAlwaysCallable level.now.read }
@@ -267,10 +267,10 @@ fn operator_or_constant<F: Fn(Global, &mut Cursor<Token>, Ask) -> Result<Got, Or
     constant(level, alloc, tokens, marked)
 }
 
-fn without_type<F: Fn(Global, &mut Cursor<Token>, Ask) -> Result<Got, Or<Fault>>>(
+fn without_type<F: Fn(Global, &mut Cursor, Ask) -> Result<Got, Or<Fault>>>(
     level: &Level<F>,
     alloc: Global,
-    tokens: &mut Cursor<Token>,
+    tokens: &mut Cursor,
     marked: Marked,
 ) -> Result<Member, Or<Fault>>
     requires callable { F.IsAlwaysCallable level.now.read }
@@ -290,10 +290,10 @@ fn without_type<F: Fn(Global, &mut Cursor<Token>, Ask) -> Result<Got, Or<Fault>>
 }
 
 /// A member, behind its modifiers.
-pub fn any_member<F: Fn(Global, &mut Cursor<Token>, Ask) -> Result<Got, Or<Fault>>>(
+pub fn any_member<F: Fn(Global, &mut Cursor, Ask) -> Result<Got, Or<Fault>>>(
     level: &Level<F>,
     alloc: Global,
-    tokens: &mut Cursor<Token>,
+    tokens: &mut Cursor,
     marked: Marked,
 ) -> Result<Member, Or<Fault>>
     requires callable { F.IsAlwaysCallable level.now.read }

@@ -9,21 +9,21 @@ ghost use Rattle.cs_units.specs.Members.{method as method_of, one_more_part as o
 ghost use Rattle.cs_read_calls.specs.Asked.{inner_of, Asked};
 
 use crate::parts::{body, limit, params};
-use cs_grammar::{Cursor, Fault, begins, expect};
+use cs_grammar::Fault;
+use cs_lex::{Cursor, begins, expect};
 use cs_read_calls::{Ask, Got, Level};
 use cs_read_types::kinds::{COLONS, DOT};
 use cs_read_types::{any_name, name_text};
-use cs_token::Token;
 use cs_tree::{Explicit, Member, Name, Spot, TypeForm};
 use cs_units::{Implementing, Marked};
 use dc_base::{Or, Seq};
 use std::alloc::Global;
 
 /// What stands behind the name of a method.
-pub(crate) fn method<F: Fn(Global, &mut Cursor<Token>, Ask) -> Result<Got, Or<Fault>>>(
+pub(crate) fn method<F: Fn(Global, &mut Cursor, Ask) -> Result<Got, Or<Fault>>>(
     level: &Level<F>,
     alloc: Global,
-    tokens: &mut Cursor<Token>,
+    tokens: &mut Cursor,
     spot: Spot,
     marked: Marked,
     outcome: Option<TypeForm>,
@@ -50,7 +50,7 @@ pub(crate) fn method<F: Fn(Global, &mut Cursor<Token>, Ask) -> Result<Got, Or<Fa
 
 fn one_more_part(
     alloc: Global,
-    tokens: &mut Cursor<Token>,
+    tokens: &mut Cursor,
     before: Implementing,
 ) -> Result<Implementing, Or<Fault>>
     ensures { Reads ((one_more_part_of before).reads tokens.old) result tokens.new }
@@ -65,7 +65,7 @@ fn one_more_part(
 /// The names that stand behind the first two of an interface and its method.
 pub fn more_parts(
     alloc: Global,
-    tokens: &mut Cursor<Token>,
+    tokens: &mut Cursor,
     first: Implementing,
 ) -> Result<Implementing, Or<Fault>>
     ensures { Reads ((turns kind_of (dot ∷ []) (λ _. true) one_more_part_of first).reads tokens.old) result tokens.new }
@@ -81,10 +81,10 @@ pub fn more_parts(
 }
 
 /// What stands behind the `global` of a method that implements one by name.
-pub(crate) fn implementing<F: Fn(Global, &mut Cursor<Token>, Ask) -> Result<Got, Or<Fault>>>(
+pub(crate) fn implementing<F: Fn(Global, &mut Cursor, Ask) -> Result<Got, Or<Fault>>>(
     level: &Level<F>,
     alloc: Global,
-    tokens: &mut Cursor<Token>,
+    tokens: &mut Cursor,
     spot: Spot,
     marked: Marked,
     outcome: Option<TypeForm>,

@@ -7,11 +7,11 @@ ghost use Rattle.cs_productions.specs.Tokens.{kind as kind_of, name_of};
 ghost use Rattle.cs_units.specs.Members.{are_none, some_params as some_params_of, params as params_of, body as body_of};
 ghost use Rattle.cs_read_calls.specs.Asked.{inner_of, Asked};
 
-use cs_grammar::{Cursor, Fault, begins, expect, take_one};
+use cs_grammar::Fault;
+use cs_lex::{Cursor, begins, expect, take_one};
 use cs_read_calls::{Ask, Got, Level};
 use cs_read_types::kinds::{PAREN, SEMICOLON, UNPAREN};
 use cs_read_types::{more_params, param, spot, text};
-use cs_token::Token;
 use cs_tree::{Block, Name, Param};
 use dc_base::{Or, Seq};
 use std::alloc::Global;
@@ -34,20 +34,20 @@ pub(crate) fn are_no(params: &Seq<Param>) -> bool
 }
 
 /// Takes a name of one of these kinds.
-pub fn named(alloc: Global, tokens: &mut Cursor<Token>, kinds: &[u16]) -> Result<Name, Or<Fault>>
+pub fn named(alloc: Global, tokens: &mut Cursor, kinds: &[u16]) -> Result<Name, Or<Fault>>
     ensures { Reads ((one kind_of kinds.now name_of).reads tokens.old) result tokens.new }
 {
     let token = take_one(tokens, kinds)?;
-    let text = text(alloc, token)?;
+    let text = text(alloc, &token)?;
     Ok(Name {
-        spot: spot(token),
+        spot: spot(&token),
         text,
     })
 }
 
 fn some_params(
     alloc: Global,
-    tokens: &mut Cursor<Token>,
+    tokens: &mut Cursor,
     limit: u16,
 ) -> Result<Seq<Param>, Or<Fault>>
     ensures { Reads ((some_params_of limit).reads tokens.old) result tokens.new }
@@ -63,7 +63,7 @@ fn some_params(
 /// Parameters, in parentheses.
 pub fn params(
     alloc: Global,
-    tokens: &mut Cursor<Token>,
+    tokens: &mut Cursor,
     limit: u16,
 ) -> Result<Seq<Param>, Or<Fault>>
     ensures { Reads ((params_of limit).reads tokens.old) result tokens.new }
@@ -77,10 +77,10 @@ pub fn params(
 }
 
 /// A block, or `;`.
-pub(crate) fn body<F: Fn(Global, &mut Cursor<Token>, Ask) -> Result<Got, Or<Fault>>>(
+pub(crate) fn body<F: Fn(Global, &mut Cursor, Ask) -> Result<Got, Or<Fault>>>(
     level: &Level<F>,
     alloc: Global,
-    tokens: &mut Cursor<Token>,
+    tokens: &mut Cursor,
 ) -> Result<Option<Block>, Or<Fault>>
     requires callable { F.IsAlwaysCallable level.now.read }
     requires exact { (alloc : _) (tokens : _) (ask : _) (result : _) (after : _) → F.post level.now.read alloc tokens ask result after → Asked level.now.at ask tokens.now result after.now }

@@ -8,14 +8,14 @@ use crate::kinds::{
     ACCESS, KW_ABSTRACT, KW_EXTERN, KW_INTERNAL, KW_OVERRIDE, KW_PRIVATE, KW_PROTECTED, KW_PUBLIC,
     KW_READONLY, KW_SEALED, KW_STATIC, KW_VIRTUAL,
 };
-use cs_grammar::{Cursor, Fault, begins};
+use cs_grammar::Fault;
+use cs_lex::{Cursor, begins};
 use cs_read_types::place;
-use cs_token::Token;
 use cs_tree::{Access, Mods, Spot};
 use cs_units::{Accessed, Marked};
 
 /// The place of a word of this kind, if it comes next.
-pub fn flag(tokens: &mut Cursor<Token>, kind: u16) -> Result<Option<Spot>, Fault>
+pub fn flag(tokens: &mut Cursor, kind: u16) -> Result<Option<Spot>, Fault>
     ensures { Finds ((flag_of kind).reads tokens.old) result tokens.new }
 {
     if !begins(tokens, &[kind]) {
@@ -24,7 +24,7 @@ pub fn flag(tokens: &mut Cursor<Token>, kind: u16) -> Result<Option<Spot>, Fault
     Ok(Some(place(tokens, kind)?))
 }
 
-fn public_access(tokens: &mut Cursor<Token>) -> Result<Accessed, Fault>
+fn public_access(tokens: &mut Cursor) -> Result<Accessed, Fault>
     ensures { Finds (public_access_of.reads tokens.old) result tokens.new }
 {
     let spot = place(tokens, KW_PUBLIC)?;
@@ -34,7 +34,7 @@ fn public_access(tokens: &mut Cursor<Token>) -> Result<Accessed, Fault>
     })
 }
 
-fn internal_access(tokens: &mut Cursor<Token>) -> Result<Accessed, Fault>
+fn internal_access(tokens: &mut Cursor) -> Result<Accessed, Fault>
     ensures { Finds (internal_access_of.reads tokens.old) result tokens.new }
 {
     let spot = place(tokens, KW_INTERNAL)?;
@@ -44,7 +44,7 @@ fn internal_access(tokens: &mut Cursor<Token>) -> Result<Accessed, Fault>
     })
 }
 
-fn private_access(tokens: &mut Cursor<Token>) -> Result<Accessed, Fault>
+fn private_access(tokens: &mut Cursor) -> Result<Accessed, Fault>
     ensures { Finds (private_access_of.reads tokens.old) result tokens.new }
 {
     let spot = place(tokens, KW_PRIVATE)?;
@@ -58,7 +58,7 @@ fn private_access(tokens: &mut Cursor<Token>) -> Result<Accessed, Fault>
     })
 }
 
-fn protected_access(tokens: &mut Cursor<Token>) -> Result<Accessed, Fault>
+fn protected_access(tokens: &mut Cursor) -> Result<Accessed, Fault>
     ensures { Finds (protected_access_of.reads tokens.old) result tokens.new }
 {
     let spot = place(tokens, KW_PROTECTED)?;
@@ -72,7 +72,7 @@ fn protected_access(tokens: &mut Cursor<Token>) -> Result<Accessed, Fault>
     })
 }
 
-fn given_access(tokens: &mut Cursor<Token>) -> Result<Accessed, Fault>
+fn given_access(tokens: &mut Cursor) -> Result<Accessed, Fault>
     ensures { Finds (given_access_of.reads tokens.old) result tokens.new }
 {
     if begins(tokens, &[KW_PUBLIC]) {
@@ -87,7 +87,7 @@ fn given_access(tokens: &mut Cursor<Token>) -> Result<Accessed, Fault>
     protected_access(tokens)
 }
 
-fn access(tokens: &mut Cursor<Token>) -> Result<Accessed, Fault>
+fn access(tokens: &mut Cursor) -> Result<Accessed, Fault>
     ensures { Finds (access_of.reads tokens.old) result tokens.new }
 {
     if begins(tokens, &ACCESS) {
@@ -110,7 +110,7 @@ fn first(one: Option<Spot>, other: Option<Spot>) -> Option<Spot>
 }
 
 /// The modifiers of a declaration, and the place of the first.
-pub fn modifiers(tokens: &mut Cursor<Token>) -> Result<Marked, Fault>
+pub fn modifiers(tokens: &mut Cursor) -> Result<Marked, Fault>
     ensures { Finds (modifiers_of.reads tokens.old) result tokens.new }
 {
     let access = access(tokens)?;

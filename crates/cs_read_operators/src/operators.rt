@@ -6,7 +6,8 @@ ghost use Rattle.cs_productions.specs.Operators.{one_binary as one_binary_of, bi
 ghost use Rattle.cs_read_calls.specs.Asked.{inner_of, Asked};
 
 use crate::nodes::{tested, three, two};
-use cs_grammar::{Cursor, Fault, begins, expect};
+use cs_grammar::Fault;
+use cs_lex::{Cursor, begins, expect};
 use cs_productions::{Measured, Part};
 use cs_read_calls::{Ask, Got, Level, held, too_deep};
 use cs_read_primaries::ranks_here;
@@ -15,14 +16,13 @@ use cs_read_types::kinds::{
     QUESTION, RELATIONAL, SHIFT, TYPE_TESTS,
 };
 use cs_read_types::{operator, ty};
-use cs_token::Token;
 use dc_base::Or;
 use std::alloc::Global;
 
-fn one_binary<F: Fn(Global, &mut Cursor<Token>, Ask) -> Result<Got, Or<Fault>>>(
+fn one_binary<F: Fn(Global, &mut Cursor, Ask) -> Result<Got, Or<Fault>>>(
     level: &Level<F>,
     alloc: Global,
-    tokens: &mut Cursor<Token>,
+    tokens: &mut Cursor,
     operators: &[u16],
     right: Part,
     left: Measured,
@@ -39,10 +39,10 @@ fn one_binary<F: Fn(Global, &mut Cursor<Token>, Ask) -> Result<Got, Or<Fault>>>(
     Ok(two(alloc, left, kind, next)?)
 }
 
-fn binaries<F: Fn(Global, &mut Cursor<Token>, Ask) -> Result<Got, Or<Fault>>>(
+fn binaries<F: Fn(Global, &mut Cursor, Ask) -> Result<Got, Or<Fault>>>(
     level: &Level<F>,
     alloc: Global,
-    tokens: &mut Cursor<Token>,
+    tokens: &mut Cursor,
     operators: &[u16],
     right: Part,
     first: Measured,
@@ -64,10 +64,10 @@ fn binaries<F: Fn(Global, &mut Cursor<Token>, Ask) -> Result<Got, Or<Fault>>>(
     Ok(left)
 }
 
-fn one_test<F: Fn(Global, &mut Cursor<Token>, Ask) -> Result<Got, Or<Fault>>>(
+fn one_test<F: Fn(Global, &mut Cursor, Ask) -> Result<Got, Or<Fault>>>(
     level: &Level<F>,
     alloc: Global,
-    tokens: &mut Cursor<Token>,
+    tokens: &mut Cursor,
     left: Measured,
 ) -> Result<Measured, Or<Fault>>
     requires callable { F.IsAlwaysCallable level.now.read }
@@ -82,10 +82,10 @@ fn one_test<F: Fn(Global, &mut Cursor<Token>, Ask) -> Result<Got, Or<Fault>>>(
     Ok(tested(left, kind, ty))
 }
 
-fn one_relation<F: Fn(Global, &mut Cursor<Token>, Ask) -> Result<Got, Or<Fault>>>(
+fn one_relation<F: Fn(Global, &mut Cursor, Ask) -> Result<Got, Or<Fault>>>(
     level: &Level<F>,
     alloc: Global,
-    tokens: &mut Cursor<Token>,
+    tokens: &mut Cursor,
     left: Measured,
 ) -> Result<Measured, Or<Fault>>
     requires callable { F.IsAlwaysCallable level.now.read }
@@ -99,10 +99,10 @@ fn one_relation<F: Fn(Global, &mut Cursor<Token>, Ask) -> Result<Got, Or<Fault>>
     one_binary(level, alloc, tokens, &COMPARISONS, Part::Shift, left)
 }
 
-fn relations<F: Fn(Global, &mut Cursor<Token>, Ask) -> Result<Got, Or<Fault>>>(
+fn relations<F: Fn(Global, &mut Cursor, Ask) -> Result<Got, Or<Fault>>>(
     level: &Level<F>,
     alloc: Global,
-    tokens: &mut Cursor<Token>,
+    tokens: &mut Cursor,
     first: Measured,
 ) -> Result<Measured, Or<Fault>>
     requires callable { F.IsAlwaysCallable level.now.read }
@@ -123,10 +123,10 @@ fn relations<F: Fn(Global, &mut Cursor<Token>, Ask) -> Result<Got, Or<Fault>>>(
 }
 
 /// `a * b`
-pub fn multiplicative<F: Fn(Global, &mut Cursor<Token>, Ask) -> Result<Got, Or<Fault>>>(
+pub fn multiplicative<F: Fn(Global, &mut Cursor, Ask) -> Result<Got, Or<Fault>>>(
     level: &Level<F>,
     alloc: Global,
-    tokens: &mut Cursor<Token>,
+    tokens: &mut Cursor,
     first: Measured,
 ) -> Result<Measured, Or<Fault>>
     requires callable { F.IsAlwaysCallable level.now.read }
@@ -137,10 +137,10 @@ pub fn multiplicative<F: Fn(Global, &mut Cursor<Token>, Ask) -> Result<Got, Or<F
 }
 
 /// `a + b`
-pub fn additive<F: Fn(Global, &mut Cursor<Token>, Ask) -> Result<Got, Or<Fault>>>(
+pub fn additive<F: Fn(Global, &mut Cursor, Ask) -> Result<Got, Or<Fault>>>(
     level: &Level<F>,
     alloc: Global,
-    tokens: &mut Cursor<Token>,
+    tokens: &mut Cursor,
     first: Measured,
 ) -> Result<Measured, Or<Fault>>
     requires callable { F.IsAlwaysCallable level.now.read }
@@ -152,10 +152,10 @@ pub fn additive<F: Fn(Global, &mut Cursor<Token>, Ask) -> Result<Got, Or<Fault>>
 }
 
 /// `a << b`
-pub fn shift<F: Fn(Global, &mut Cursor<Token>, Ask) -> Result<Got, Or<Fault>>>(
+pub fn shift<F: Fn(Global, &mut Cursor, Ask) -> Result<Got, Or<Fault>>>(
     level: &Level<F>,
     alloc: Global,
-    tokens: &mut Cursor<Token>,
+    tokens: &mut Cursor,
     first: Measured,
 ) -> Result<Measured, Or<Fault>>
     requires callable { F.IsAlwaysCallable level.now.read }
@@ -167,10 +167,10 @@ pub fn shift<F: Fn(Global, &mut Cursor<Token>, Ask) -> Result<Got, Or<Fault>>>(
 }
 
 /// `a < b`, `a is T`
-pub fn relational<F: Fn(Global, &mut Cursor<Token>, Ask) -> Result<Got, Or<Fault>>>(
+pub fn relational<F: Fn(Global, &mut Cursor, Ask) -> Result<Got, Or<Fault>>>(
     level: &Level<F>,
     alloc: Global,
-    tokens: &mut Cursor<Token>,
+    tokens: &mut Cursor,
     first: Measured,
 ) -> Result<Measured, Or<Fault>>
     requires callable { F.IsAlwaysCallable level.now.read }
@@ -182,10 +182,10 @@ pub fn relational<F: Fn(Global, &mut Cursor<Token>, Ask) -> Result<Got, Or<Fault
 }
 
 /// `a == b`
-pub fn equality<F: Fn(Global, &mut Cursor<Token>, Ask) -> Result<Got, Or<Fault>>>(
+pub fn equality<F: Fn(Global, &mut Cursor, Ask) -> Result<Got, Or<Fault>>>(
     level: &Level<F>,
     alloc: Global,
-    tokens: &mut Cursor<Token>,
+    tokens: &mut Cursor,
     first: Measured,
 ) -> Result<Measured, Or<Fault>>
     requires callable { F.IsAlwaysCallable level.now.read }
@@ -197,10 +197,10 @@ pub fn equality<F: Fn(Global, &mut Cursor<Token>, Ask) -> Result<Got, Or<Fault>>
 }
 
 /// `a & b`
-pub fn and<F: Fn(Global, &mut Cursor<Token>, Ask) -> Result<Got, Or<Fault>>>(
+pub fn and<F: Fn(Global, &mut Cursor, Ask) -> Result<Got, Or<Fault>>>(
     level: &Level<F>,
     alloc: Global,
-    tokens: &mut Cursor<Token>,
+    tokens: &mut Cursor,
     first: Measured,
 ) -> Result<Measured, Or<Fault>>
     requires callable { F.IsAlwaysCallable level.now.read }
@@ -212,10 +212,10 @@ pub fn and<F: Fn(Global, &mut Cursor<Token>, Ask) -> Result<Got, Or<Fault>>>(
 }
 
 /// `a ^ b`
-pub fn exclusive_or<F: Fn(Global, &mut Cursor<Token>, Ask) -> Result<Got, Or<Fault>>>(
+pub fn exclusive_or<F: Fn(Global, &mut Cursor, Ask) -> Result<Got, Or<Fault>>>(
     level: &Level<F>,
     alloc: Global,
-    tokens: &mut Cursor<Token>,
+    tokens: &mut Cursor,
     first: Measured,
 ) -> Result<Measured, Or<Fault>>
     requires callable { F.IsAlwaysCallable level.now.read }
@@ -227,10 +227,10 @@ pub fn exclusive_or<F: Fn(Global, &mut Cursor<Token>, Ask) -> Result<Got, Or<Fau
 }
 
 /// `a | b`
-pub fn inclusive_or<F: Fn(Global, &mut Cursor<Token>, Ask) -> Result<Got, Or<Fault>>>(
+pub fn inclusive_or<F: Fn(Global, &mut Cursor, Ask) -> Result<Got, Or<Fault>>>(
     level: &Level<F>,
     alloc: Global,
-    tokens: &mut Cursor<Token>,
+    tokens: &mut Cursor,
     first: Measured,
 ) -> Result<Measured, Or<Fault>>
     requires callable { F.IsAlwaysCallable level.now.read }
@@ -242,10 +242,10 @@ pub fn inclusive_or<F: Fn(Global, &mut Cursor<Token>, Ask) -> Result<Got, Or<Fau
 }
 
 /// `a && b`
-pub fn conditional_and<F: Fn(Global, &mut Cursor<Token>, Ask) -> Result<Got, Or<Fault>>>(
+pub fn conditional_and<F: Fn(Global, &mut Cursor, Ask) -> Result<Got, Or<Fault>>>(
     level: &Level<F>,
     alloc: Global,
-    tokens: &mut Cursor<Token>,
+    tokens: &mut Cursor,
     first: Measured,
 ) -> Result<Measured, Or<Fault>>
     requires callable { F.IsAlwaysCallable level.now.read }
@@ -257,10 +257,10 @@ pub fn conditional_and<F: Fn(Global, &mut Cursor<Token>, Ask) -> Result<Got, Or<
 }
 
 /// `a || b`
-pub fn conditional_or<F: Fn(Global, &mut Cursor<Token>, Ask) -> Result<Got, Or<Fault>>>(
+pub fn conditional_or<F: Fn(Global, &mut Cursor, Ask) -> Result<Got, Or<Fault>>>(
     level: &Level<F>,
     alloc: Global,
-    tokens: &mut Cursor<Token>,
+    tokens: &mut Cursor,
     first: Measured,
 ) -> Result<Measured, Or<Fault>>
     requires callable { F.IsAlwaysCallable level.now.read }
@@ -278,10 +278,10 @@ pub fn conditional_or<F: Fn(Global, &mut Cursor<Token>, Ask) -> Result<Got, Or<F
     )
 }
 
-fn choosing<F: Fn(Global, &mut Cursor<Token>, Ask) -> Result<Got, Or<Fault>>>(
+fn choosing<F: Fn(Global, &mut Cursor, Ask) -> Result<Got, Or<Fault>>>(
     level: &Level<F>,
     alloc: Global,
-    tokens: &mut Cursor<Token>,
+    tokens: &mut Cursor,
     test: Measured,
 ) -> Result<Measured, Or<Fault>>
     requires callable { F.IsAlwaysCallable level.now.read }
@@ -299,10 +299,10 @@ fn choosing<F: Fn(Global, &mut Cursor<Token>, Ask) -> Result<Got, Or<Fault>>>(
     Ok(three(alloc, test, on_true, on_false)?)
 }
 
-fn chosen<F: Fn(Global, &mut Cursor<Token>, Ask) -> Result<Got, Or<Fault>>>(
+fn chosen<F: Fn(Global, &mut Cursor, Ask) -> Result<Got, Or<Fault>>>(
     level: &Level<F>,
     alloc: Global,
-    tokens: &mut Cursor<Token>,
+    tokens: &mut Cursor,
     test: Measured,
 ) -> Result<Measured, Or<Fault>>
     requires callable { F.IsAlwaysCallable level.now.read }
@@ -319,10 +319,10 @@ fn chosen<F: Fn(Global, &mut Cursor<Token>, Ask) -> Result<Got, Or<Fault>>>(
 }
 
 /// `a ? b : c`
-pub fn conditional<F: Fn(Global, &mut Cursor<Token>, Ask) -> Result<Got, Or<Fault>>>(
+pub fn conditional<F: Fn(Global, &mut Cursor, Ask) -> Result<Got, Or<Fault>>>(
     level: &Level<F>,
     alloc: Global,
-    tokens: &mut Cursor<Token>,
+    tokens: &mut Cursor,
     first: Measured,
 ) -> Result<Measured, Or<Fault>>
     requires callable { F.IsAlwaysCallable level.now.read }

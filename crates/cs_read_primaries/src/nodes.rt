@@ -6,7 +6,6 @@ ghost use Rattle.cs_productions.specs.Kinds.{kw_checked};
 ghost use Rattle.cs_productions.specs.Tokens.{kind as kind_of, spot_of};
 ghost use Rattle.cs_productions.specs.Calls.{raised as raised_of};
 
-use cs_grammar::Kinded;
 use cs_productions::Measured;
 use cs_read_calls::{OnHeap, raised};
 use cs_read_types::kinds::KW_CHECKED;

@@ -11,7 +11,8 @@ ghost use Rattle.cs_productions.specs.Primaries.{base_call, path_alone, of_base 
 ghost use Rattle.cs_read_calls.specs.Asked.{inner_of, Asked};
 
 use crate::nodes::{checked, new_array};
-use cs_grammar::{Cursor, Fault, begins, expect, take_one};
+use cs_grammar::Fault;
+use cs_lex::{Cursor, begins, expect, take_one};
 use cs_productions::{Args, Measured, Part};
 use cs_read_calls::{Ask, Got, Level, held, leaf, raised, raised_call, too_deep};
 use cs_read_types::kinds::{
@@ -19,7 +20,6 @@ use cs_read_types::kinds::{
     UNPAREN,
 };
 use cs_read_types::{any_name, global_leaf, named_type, path, place, ranks, simple, ty};
-use cs_token::Token;
 use cs_tree::{Form, Name, Spot, TypeForm};
 use dc_base::{Or, Seq, Text};
 use std::alloc::Global;
@@ -38,10 +38,10 @@ pub fn blocks_here<F>(level: &Level<F>) -> u16
     level.at.blocks
 }
 
-fn base_member<F: Fn(Global, &mut Cursor<Token>, Ask) -> Result<Got, Or<Fault>>>(
+fn base_member<F: Fn(Global, &mut Cursor, Ask) -> Result<Got, Or<Fault>>>(
     level: &Level<F>,
     alloc: Global,
-    tokens: &mut Cursor<Token>,
+    tokens: &mut Cursor,
     spot: Spot,
     name: Name,
 ) -> Result<Measured, Or<Fault>>
@@ -61,10 +61,10 @@ fn base_member<F: Fn(Global, &mut Cursor<Token>, Ask) -> Result<Got, Or<Fault>>>
 }
 
 /// `base.b`, `base.b(c)`
-pub fn of_base<F: Fn(Global, &mut Cursor<Token>, Ask) -> Result<Got, Or<Fault>>>(
+pub fn of_base<F: Fn(Global, &mut Cursor, Ask) -> Result<Got, Or<Fault>>>(
     level: &Level<F>,
     alloc: Global,
-    tokens: &mut Cursor<Token>,
+    tokens: &mut Cursor,
 ) -> Result<Measured, Or<Fault>>
     requires callable { F.IsAlwaysCallable level.now.read }
     requires exact { (alloc : _) (tokens : _) (ask : _) (result : _) (after : _) → F.post level.now.read alloc tokens ask result after → Asked level.now.at ask tokens.now result after.now }
@@ -78,10 +78,10 @@ pub fn of_base<F: Fn(Global, &mut Cursor<Token>, Ask) -> Result<Got, Or<Fault>>>
 }
 
 /// The call of a path, whose arguments come next.
-pub fn called_path<F: Fn(Global, &mut Cursor<Token>, Ask) -> Result<Got, Or<Fault>>>(
+pub fn called_path<F: Fn(Global, &mut Cursor, Ask) -> Result<Got, Or<Fault>>>(
     level: &Level<F>,
     alloc: Global,
-    tokens: &mut Cursor<Token>,
+    tokens: &mut Cursor,
     spot: Spot,
     path: Seq<Text>,
 ) -> Result<Measured, Or<Fault>>
@@ -95,10 +95,10 @@ pub fn called_path<F: Fn(Global, &mut Cursor<Token>, Ask) -> Result<Got, Or<Faul
     level.postfixes(alloc, tokens, call)
 }
 
-fn indexed<F: Fn(Global, &mut Cursor<Token>, Ask) -> Result<Got, Or<Fault>>>(
+fn indexed<F: Fn(Global, &mut Cursor, Ask) -> Result<Got, Or<Fault>>>(
     level: &Level<F>,
     alloc: Global,
-    tokens: &mut Cursor<Token>,
+    tokens: &mut Cursor,
     array: Measured,
 ) -> Result<Measured, Or<Fault>>
     requires callable { F.IsAlwaysCallable level.now.read }
@@ -110,10 +110,10 @@ fn indexed<F: Fn(Global, &mut Cursor<Token>, Ask) -> Result<Got, Or<Fault>>>(
     level.postfixes(alloc, tokens, element)
 }
 
-fn uncalled_path<F: Fn(Global, &mut Cursor<Token>, Ask) -> Result<Got, Or<Fault>>>(
+fn uncalled_path<F: Fn(Global, &mut Cursor, Ask) -> Result<Got, Or<Fault>>>(
     level: &Level<F>,
     alloc: Global,
-    tokens: &mut Cursor<Token>,
+    tokens: &mut Cursor,
     spot: Spot,
     path: Seq<Text>,
 ) -> Result<Measured, Or<Fault>>
@@ -135,10 +135,10 @@ fn uncalled_path<F: Fn(Global, &mut Cursor<Token>, Ask) -> Result<Got, Or<Fault>
     )
 }
 
-fn behind_path<F: Fn(Global, &mut Cursor<Token>, Ask) -> Result<Got, Or<Fault>>>(
+fn behind_path<F: Fn(Global, &mut Cursor, Ask) -> Result<Got, Or<Fault>>>(
     level: &Level<F>,
     alloc: Global,
-    tokens: &mut Cursor<Token>,
+    tokens: &mut Cursor,
     spot: Spot,
     path: Seq<Text>,
 ) -> Result<Measured, Or<Fault>>
@@ -155,10 +155,10 @@ fn behind_path<F: Fn(Global, &mut Cursor<Token>, Ask) -> Result<Got, Or<Fault>>>
     called_path(level, alloc, tokens, spot, path)
 }
 
-fn global_path<F: Fn(Global, &mut Cursor<Token>, Ask) -> Result<Got, Or<Fault>>>(
+fn global_path<F: Fn(Global, &mut Cursor, Ask) -> Result<Got, Or<Fault>>>(
     level: &Level<F>,
     alloc: Global,
-    tokens: &mut Cursor<Token>,
+    tokens: &mut Cursor,
     spot: Spot,
 ) -> Result<Measured, Or<Fault>>
     requires callable { F.IsAlwaysCallable level.now.read }
@@ -171,10 +171,10 @@ fn global_path<F: Fn(Global, &mut Cursor<Token>, Ask) -> Result<Got, Or<Fault>>>
 }
 
 /// `global::A.B.f`, `global::A.B.M(c)`, or the name `global`
-pub fn of_global<F: Fn(Global, &mut Cursor<Token>, Ask) -> Result<Got, Or<Fault>>>(
+pub fn of_global<F: Fn(Global, &mut Cursor, Ask) -> Result<Got, Or<Fault>>>(
     level: &Level<F>,
     alloc: Global,
-    tokens: &mut Cursor<Token>,
+    tokens: &mut Cursor,
 ) -> Result<Measured, Or<Fault>>
     requires callable { F.IsAlwaysCallable level.now.read }
     requires exact { (alloc : _) (tokens : _) (ask : _) (result : _) (after : _) → F.post level.now.read alloc tokens ask result after → Asked level.now.at ask tokens.now result after.now }
@@ -187,10 +187,10 @@ pub fn of_global<F: Fn(Global, &mut Cursor<Token>, Ask) -> Result<Got, Or<Fault>
     level.postfixes(alloc, tokens, global)
 }
 
-fn of_new_object<F: Fn(Global, &mut Cursor<Token>, Ask) -> Result<Got, Or<Fault>>>(
+fn of_new_object<F: Fn(Global, &mut Cursor, Ask) -> Result<Got, Or<Fault>>>(
     level: &Level<F>,
     alloc: Global,
-    tokens: &mut Cursor<Token>,
+    tokens: &mut Cursor,
     spot: Spot,
     ty: TypeForm,
 ) -> Result<Measured, Or<Fault>>
@@ -205,10 +205,10 @@ fn of_new_object<F: Fn(Global, &mut Cursor<Token>, Ask) -> Result<Got, Or<Fault>
     level.postfixes(alloc, tokens, object)
 }
 
-fn with_member<F: Fn(Global, &mut Cursor<Token>, Ask) -> Result<Got, Or<Fault>>>(
+fn with_member<F: Fn(Global, &mut Cursor, Ask) -> Result<Got, Or<Fault>>>(
     level: &Level<F>,
     alloc: Global,
-    tokens: &mut Cursor<Token>,
+    tokens: &mut Cursor,
     array: Measured,
 ) -> Result<Measured, Or<Fault>>
     requires callable { F.IsAlwaysCallable level.now.read }
@@ -220,10 +220,10 @@ fn with_member<F: Fn(Global, &mut Cursor<Token>, Ask) -> Result<Got, Or<Fault>>>
     level.postfixes(alloc, tokens, member)
 }
 
-fn behind_array<F: Fn(Global, &mut Cursor<Token>, Ask) -> Result<Got, Or<Fault>>>(
+fn behind_array<F: Fn(Global, &mut Cursor, Ask) -> Result<Got, Or<Fault>>>(
     level: &Level<F>,
     alloc: Global,
-    tokens: &mut Cursor<Token>,
+    tokens: &mut Cursor,
     array: Measured,
 ) -> Result<Measured, Or<Fault>>
     requires callable { F.IsAlwaysCallable level.now.read }
@@ -239,10 +239,10 @@ fn behind_array<F: Fn(Global, &mut Cursor<Token>, Ask) -> Result<Got, Or<Fault>>
     with_member(level, alloc, tokens, array)
 }
 
-fn of_new_array<F: Fn(Global, &mut Cursor<Token>, Ask) -> Result<Got, Or<Fault>>>(
+fn of_new_array<F: Fn(Global, &mut Cursor, Ask) -> Result<Got, Or<Fault>>>(
     level: &Level<F>,
     alloc: Global,
-    tokens: &mut Cursor<Token>,
+    tokens: &mut Cursor,
     spot: Spot,
     ty: TypeForm,
 ) -> Result<Measured, Or<Fault>>
@@ -261,10 +261,10 @@ fn of_new_array<F: Fn(Global, &mut Cursor<Token>, Ask) -> Result<Got, Or<Fault>>
 }
 
 /// `new global::A.B(c)`, `new int[n][]`
-pub fn of_new<F: Fn(Global, &mut Cursor<Token>, Ask) -> Result<Got, Or<Fault>>>(
+pub fn of_new<F: Fn(Global, &mut Cursor, Ask) -> Result<Got, Or<Fault>>>(
     level: &Level<F>,
     alloc: Global,
-    tokens: &mut Cursor<Token>,
+    tokens: &mut Cursor,
 ) -> Result<Measured, Or<Fault>>
     requires callable { F.IsAlwaysCallable level.now.read }
     requires exact { (alloc : _) (tokens : _) (ask : _) (result : _) (after : _) → F.post level.now.read alloc tokens ask result after → Asked level.now.at ask tokens.now result after.now }
@@ -279,10 +279,10 @@ pub fn of_new<F: Fn(Global, &mut Cursor<Token>, Ask) -> Result<Got, Or<Fault>>>(
 }
 
 /// `default(int)`
-pub fn of_default<F: Fn(Global, &mut Cursor<Token>, Ask) -> Result<Got, Or<Fault>>>(
+pub fn of_default<F: Fn(Global, &mut Cursor, Ask) -> Result<Got, Or<Fault>>>(
     level: &Level<F>,
     alloc: Global,
-    tokens: &mut Cursor<Token>,
+    tokens: &mut Cursor,
 ) -> Result<Measured, Or<Fault>>
     requires callable { F.IsAlwaysCallable level.now.read }
     requires exact { (alloc : _) (tokens : _) (ask : _) (result : _) (after : _) → F.post level.now.read alloc tokens ask result after → Asked level.now.at ask tokens.now result after.now }
@@ -297,10 +297,10 @@ pub fn of_default<F: Fn(Global, &mut Cursor<Token>, Ask) -> Result<Got, Or<Fault
 }
 
 /// `checked(a)`, `unchecked(a)`
-pub fn of_checked<F: Fn(Global, &mut Cursor<Token>, Ask) -> Result<Got, Or<Fault>>>(
+pub fn of_checked<F: Fn(Global, &mut Cursor, Ask) -> Result<Got, Or<Fault>>>(
     level: &Level<F>,
     alloc: Global,
-    tokens: &mut Cursor<Token>,
+    tokens: &mut Cursor,
 ) -> Result<Measured, Or<Fault>>
     requires callable { F.IsAlwaysCallable level.now.read }
     requires exact { (alloc : _) (tokens : _) (ask : _) (result : _) (after : _) → F.post level.now.read alloc tokens ask result after → Asked level.now.at ask tokens.now result after.now }
@@ -312,15 +312,15 @@ pub fn of_checked<F: Fn(Global, &mut Cursor<Token>, Ask) -> Result<Got, Or<Fault
     let inner = level.form(alloc, tokens, Part::Whole)?;
     let inner = held(alloc, inner)?;
     expect(tokens, UNPAREN)?;
-    let value = checked(token, inner);
+    let value = checked(&token, inner);
     level.postfixes(alloc, tokens, value)
 }
 
 /// A name, a literal or `this`
-pub fn of_simple<F: Fn(Global, &mut Cursor<Token>, Ask) -> Result<Got, Or<Fault>>>(
+pub fn of_simple<F: Fn(Global, &mut Cursor, Ask) -> Result<Got, Or<Fault>>>(
     level: &Level<F>,
     alloc: Global,
-    tokens: &mut Cursor<Token>,
+    tokens: &mut Cursor,
 ) -> Result<Measured, Or<Fault>>
     requires callable { F.IsAlwaysCallable level.now.read }
     requires exact { (alloc : _) (tokens : _) (ask : _) (result : _) (after : _) → F.post level.now.read alloc tokens ask result after → Asked level.now.at ask tokens.now result after.now }

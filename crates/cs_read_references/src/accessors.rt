@@ -4,19 +4,19 @@ ghost use Rattle.std.specs.Prelude.{◌≡◌};
 ghost use Rattle.cs_grammar.specs.Reads.{Reads};
 ghost use Rattle.cs_references.specs.Members.{accessor as accessor_of, with_setter as with_setter_of, behind_getter as behind_getter_of, with_getter as with_getter_of, first_accessor as first_accessor_of, accessors as accessors_of, property as property_of, indexing as indexing_of};
 
-use cs_grammar::{Cursor, Fault, begins, expect};
+use cs_grammar::Fault;
+use cs_lex::{Cursor, begins, expect};
 use cs_read_members::without_setter;
 use cs_read_modifiers::kinds::{GETTER, SETTER};
 use cs_read_modifiers::{is_unmarked, modifiers, start};
 use cs_read_types::kinds::{BRACE, BRACKET, SEMICOLON, UNBRACE, UNBRACKET};
 use cs_read_types::{any_name, place, ty};
-use cs_token::Token;
 use cs_tree::{Accessor, Member, Name, Spot, TypeForm};
 use cs_units::{Accessors, Marked};
 use dc_base::Or;
 use std::alloc::Global;
 
-fn accessor(tokens: &mut Cursor<Token>, word: u16, marked: Marked) -> Result<Accessor, Or<Fault>>
+fn accessor(tokens: &mut Cursor, word: u16, marked: Marked) -> Result<Accessor, Or<Fault>>
     ensures { Reads ((accessor_of word marked).reads tokens.old) result tokens.new }
 {
     let spot = place(tokens, word)?;
@@ -29,7 +29,7 @@ fn accessor(tokens: &mut Cursor<Token>, word: u16, marked: Marked) -> Result<Acc
 }
 
 fn with_setter(
-    tokens: &mut Cursor<Token>,
+    tokens: &mut Cursor,
     getter: Option<Accessor>,
     marked: Marked,
 ) -> Result<Accessors, Or<Fault>>
@@ -44,7 +44,7 @@ fn with_setter(
 }
 
 fn behind_getter(
-    tokens: &mut Cursor<Token>,
+    tokens: &mut Cursor,
     getter: Option<Accessor>,
     marked: Marked,
 ) -> Result<Accessors, Or<Fault>>
@@ -56,7 +56,7 @@ fn behind_getter(
     with_setter(tokens, getter, marked)
 }
 
-fn with_getter(tokens: &mut Cursor<Token>, marked: Marked) -> Result<Accessors, Or<Fault>>
+fn with_getter(tokens: &mut Cursor, marked: Marked) -> Result<Accessors, Or<Fault>>
     ensures { Reads ((with_getter_of marked).reads tokens.old) result tokens.new }
 {
     let getter = accessor(tokens, GETTER, marked)?;
@@ -64,7 +64,7 @@ fn with_getter(tokens: &mut Cursor<Token>, marked: Marked) -> Result<Accessors, 
     behind_getter(tokens, Some(getter), more)
 }
 
-fn first_accessor(tokens: &mut Cursor<Token>, marked: Marked) -> Result<Accessors, Or<Fault>>
+fn first_accessor(tokens: &mut Cursor, marked: Marked) -> Result<Accessors, Or<Fault>>
     ensures { Reads ((first_accessor_of marked).reads tokens.old) result tokens.new }
 {
     if begins(tokens, &[GETTER]) {
@@ -73,7 +73,7 @@ fn first_accessor(tokens: &mut Cursor<Token>, marked: Marked) -> Result<Accessor
     behind_getter(tokens, None, marked)
 }
 
-fn accessors(tokens: &mut Cursor<Token>) -> Result<Accessors, Or<Fault>>
+fn accessors(tokens: &mut Cursor) -> Result<Accessors, Or<Fault>>
     ensures { Reads (accessors_of.reads tokens.old) result tokens.new }
 {
     expect(tokens, BRACE)?;
@@ -83,7 +83,7 @@ fn accessors(tokens: &mut Cursor<Token>) -> Result<Accessors, Or<Fault>>
 
 /// What stands behind the name of a property.
 pub fn property(
-    tokens: &mut Cursor<Token>,
+    tokens: &mut Cursor,
     marked: Marked,
     ty: TypeForm,
     name: Name,
@@ -105,7 +105,7 @@ pub fn property(
 /// What stands behind the `indexer` of an indexer.
 pub fn indexing(
     alloc: Global,
-    tokens: &mut Cursor<Token>,
+    tokens: &mut Cursor,
     limit: u16,
     marked: Marked,
     at: Spot,

@@ -10,13 +10,13 @@ ghost use Rattle.cs_units.specs.Declarations.{enum_type as enum_type_of, delegat
 ghost use Rattle.cs_references.specs.Declarations.{body_type as body_type_of, type_behind as type_behind_of, member_item as member_item_of, type_item as type_item_of, item_at, type_at};
 
 use crate::kinds_of_members::any_member;
-use cs_grammar::{Cursor, Fault, Kinded, begins, expect, take_one};
+use cs_grammar::Fault;
+use cs_lex::{Cursor, begins, expect, take_one};
 use cs_read_modifiers::kinds::{BODIES, ITEMS, KW_ENUM, TYPE_WORDS};
 use cs_read_modifiers::{modifiers, start};
 use cs_read_types::kinds::{BRACE, UNBRACE};
 use cs_read_types::{any_name, spot};
 use cs_read_units::{bases, delegate_type, enum_type, kind};
-use cs_token::Token;
 use cs_tree::{Decl, Item};
 use cs_units::Marked;
 use dc_base::{Boxed, Items, Or};
@@ -24,7 +24,7 @@ use std::alloc::Global;
 
 fn member_item(
     alloc: Global,
-    tokens: &mut Cursor<Token>,
+    tokens: &mut Cursor,
     limit: u16,
     marked: Marked,
 ) -> Result<Item, Or<Fault>>
@@ -36,7 +36,7 @@ fn member_item(
 
 fn without_body(
     alloc: Global,
-    tokens: &mut Cursor<Token>,
+    tokens: &mut Cursor,
     limit: u16,
     marked: Marked,
 ) -> Result<Decl, Or<Fault>>
@@ -51,7 +51,7 @@ fn without_body(
 #[cycle(types)]
 fn one_more_item(
     alloc: Global,
-    tokens: &mut Cursor<Token>,
+    tokens: &mut Cursor,
     limit: u16,
     nesting: u16,
     mut before: Items<Item>,
@@ -66,7 +66,7 @@ fn one_more_item(
 #[cycle(types)]
 fn items(
     alloc: Global,
-    tokens: &mut Cursor<Token>,
+    tokens: &mut Cursor,
     limit: u16,
     nesting: u16,
 ) -> Result<Items<Item>, Or<Fault>>
@@ -85,7 +85,7 @@ fn items(
 #[cycle(types)]
 fn body_type(
     alloc: Global,
-    tokens: &mut Cursor<Token>,
+    tokens: &mut Cursor,
     limit: u16,
     nesting: u16,
     marked: Marked,
@@ -112,7 +112,7 @@ fn body_type(
 #[cycle(types)]
 fn type_behind(
     alloc: Global,
-    tokens: &mut Cursor<Token>,
+    tokens: &mut Cursor,
     limit: u16,
     nesting: u16,
     marked: Marked,
@@ -128,7 +128,7 @@ fn type_behind(
 #[cycle(types)]
 fn type_item(
     alloc: Global,
-    tokens: &mut Cursor<Token>,
+    tokens: &mut Cursor,
     limit: u16,
     nesting: u16,
     marked: Marked,
@@ -144,7 +144,7 @@ fn type_item(
 /// What stands in a type, in which so many types may be open in one another.
 pub fn item(
     alloc: Global,
-    tokens: &mut Cursor<Token>,
+    tokens: &mut Cursor,
     limit: u16,
     nesting: u16,
 ) -> Result<Item, Or<Fault>>
@@ -163,7 +163,7 @@ pub fn item(
 /// A type, in which so many types may be open in one another.
 pub fn type_in_text(
     alloc: Global,
-    tokens: &mut Cursor<Token>,
+    tokens: &mut Cursor,
     limit: u16,
     nesting: u16,
 ) -> Result<Decl, Or<Fault>>

@@ -5,13 +5,13 @@ ghost use Rattle.cs_grammar.specs.Reads.{Reads};
 ghost use Rattle.cs_references.specs.Members.{field as field_of, constant as constant_of, operator as operator_of, constructing as constructing_of};
 
 use crate::values::value;
-use cs_grammar::{Cursor, Fault, expect};
+use cs_grammar::Fault;
+use cs_lex::{Cursor, expect};
 use cs_read_members::{maker, params};
 use cs_read_modifiers::kinds::{KW_CONST, KW_OPERATOR};
 use cs_read_modifiers::start;
 use cs_read_types::kinds::{EQUALS, SEMICOLON};
 use cs_read_types::{any_name, place, ty};
-use cs_token::Token;
 use cs_tree::{Member, Name, Spot, TypeForm};
 use cs_units::Marked;
 use dc_base::Or;
@@ -19,7 +19,7 @@ use std::alloc::Global;
 
 /// What stands behind the name of a field.
 pub fn field(
-    tokens: &mut Cursor<Token>,
+    tokens: &mut Cursor,
     marked: Marked,
     ty: TypeForm,
     name: Name,
@@ -40,7 +40,7 @@ pub fn field(
 /// `const int X = 5;`
 pub fn constant(
     alloc: Global,
-    tokens: &mut Cursor<Token>,
+    tokens: &mut Cursor,
     limit: u16,
     marked: Marked,
 ) -> Result<Member, Or<Fault>>
@@ -63,7 +63,7 @@ pub fn constant(
 }
 
 /// `operator bool op_Equality(int a, int b);`
-pub fn operator(alloc: Global, tokens: &mut Cursor<Token>, limit: u16) -> Result<Member, Or<Fault>>
+pub fn operator(alloc: Global, tokens: &mut Cursor, limit: u16) -> Result<Member, Or<Fault>>
     ensures { Reads ((operator_of limit).reads tokens.old) result tokens.new }
 {
     let spot = place(tokens, KW_OPERATOR)?;
@@ -82,7 +82,7 @@ pub fn operator(alloc: Global, tokens: &mut Cursor<Token>, limit: u16) -> Result
 /// What stands behind the name of a constructor.
 pub fn constructing(
     alloc: Global,
-    tokens: &mut Cursor<Token>,
+    tokens: &mut Cursor,
     limit: u16,
     marked: Marked,
     name: Name,

@@ -12,13 +12,13 @@ ghost use Rattle.cs_references.specs.Members.{behind_name as behind_name_of, glo
 use crate::accessors::{indexing, property};
 use crate::fields::{constant, constructing, field, operator};
 use crate::methods::{implementing, method};
-use cs_grammar::{Cursor, Fault, begins, expect};
+use cs_grammar::Fault;
+use cs_lex::{Cursor, begins, expect};
 use cs_read_members::named;
 use cs_read_modifiers::kinds::{INDEXER, KW_OPERATOR, KW_VOID, MAKERS, PLAIN_NAMES};
 use cs_read_modifiers::{is_unmarked, start};
 use cs_read_types::kinds::{COLONS, GLOBAL, KEYWORD_TYPES, PAREN, SEMICOLON};
 use cs_read_types::{path, place, ranks, type_of_keyword};
-use cs_token::Token;
 use cs_tree::{Member, Name, Spot, TypeForm, TypeName};
 use cs_units::Marked;
 use dc_base::Or;
@@ -26,7 +26,7 @@ use std::alloc::Global;
 
 fn method_or_property(
     alloc: Global,
-    tokens: &mut Cursor<Token>,
+    tokens: &mut Cursor,
     limit: u16,
     marked: Marked,
     ty: TypeForm,
@@ -43,7 +43,7 @@ fn method_or_property(
 
 fn behind_name(
     alloc: Global,
-    tokens: &mut Cursor<Token>,
+    tokens: &mut Cursor,
     limit: u16,
     marked: Marked,
     ty: TypeForm,
@@ -59,7 +59,7 @@ fn behind_name(
 
 fn global_behind(
     alloc: Global,
-    tokens: &mut Cursor<Token>,
+    tokens: &mut Cursor,
     limit: u16,
     marked: Marked,
     ty: TypeForm,
@@ -76,7 +76,7 @@ fn global_behind(
 
 fn name_behind(
     alloc: Global,
-    tokens: &mut Cursor<Token>,
+    tokens: &mut Cursor,
     limit: u16,
     marked: Marked,
     ty: TypeForm,
@@ -89,7 +89,7 @@ fn name_behind(
 
 fn behind_type(
     alloc: Global,
-    tokens: &mut Cursor<Token>,
+    tokens: &mut Cursor,
     limit: u16,
     marked: Marked,
     ty: TypeForm,
@@ -104,7 +104,7 @@ fn behind_type(
 
 fn void_global(
     alloc: Global,
-    tokens: &mut Cursor<Token>,
+    tokens: &mut Cursor,
     limit: u16,
     marked: Marked,
     at: Spot,
@@ -121,7 +121,7 @@ fn void_global(
 
 fn void_name(
     alloc: Global,
-    tokens: &mut Cursor<Token>,
+    tokens: &mut Cursor,
     limit: u16,
     marked: Marked,
     at: Spot,
@@ -135,7 +135,7 @@ fn void_name(
 
 fn void_method(
     alloc: Global,
-    tokens: &mut Cursor<Token>,
+    tokens: &mut Cursor,
     limit: u16,
     marked: Marked,
 ) -> Result<Member, Or<Fault>>
@@ -150,7 +150,7 @@ fn void_method(
 
 fn keyword_member(
     alloc: Global,
-    tokens: &mut Cursor<Token>,
+    tokens: &mut Cursor,
     limit: u16,
     marked: Marked,
 ) -> Result<Member, Or<Fault>>
@@ -162,7 +162,7 @@ fn keyword_member(
 
 fn path_member(
     alloc: Global,
-    tokens: &mut Cursor<Token>,
+    tokens: &mut Cursor,
     limit: u16,
     marked: Marked,
     spot: Spot,
@@ -182,7 +182,7 @@ fn path_member(
 
 fn global_member(
     alloc: Global,
-    tokens: &mut Cursor<Token>,
+    tokens: &mut Cursor,
     limit: u16,
     marked: Marked,
 ) -> Result<Member, Or<Fault>>
@@ -197,7 +197,7 @@ fn global_member(
 
 fn indexer_member(
     alloc: Global,
-    tokens: &mut Cursor<Token>,
+    tokens: &mut Cursor,
     limit: u16,
     marked: Marked,
 ) -> Result<Member, Or<Fault>>
@@ -212,7 +212,7 @@ fn indexer_member(
 
 fn named_member(
     alloc: Global,
-    tokens: &mut Cursor<Token>,
+    tokens: &mut Cursor,
     limit: u16,
     marked: Marked,
 ) -> Result<Member, Or<Fault>>
@@ -224,7 +224,7 @@ fn named_member(
 
 fn operator_or_constant(
     alloc: Global,
-    tokens: &mut Cursor<Token>,
+    tokens: &mut Cursor,
     limit: u16,
     marked: Marked,
 ) -> Result<Member, Or<Fault>>
@@ -238,7 +238,7 @@ fn operator_or_constant(
 
 fn without_type(
     alloc: Global,
-    tokens: &mut Cursor<Token>,
+    tokens: &mut Cursor,
     limit: u16,
     marked: Marked,
 ) -> Result<Member, Or<Fault>>
@@ -259,7 +259,7 @@ fn without_type(
 /// A member, behind its modifiers.
 pub fn any_member(
     alloc: Global,
-    tokens: &mut Cursor<Token>,
+    tokens: &mut Cursor,
     limit: u16,
     marked: Marked,
 ) -> Result<Member, Or<Fault>>

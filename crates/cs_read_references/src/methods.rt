@@ -4,11 +4,11 @@ ghost use Rattle.std.specs.Prelude.{◌≡◌};
 ghost use Rattle.cs_grammar.specs.Reads.{Reads};
 ghost use Rattle.cs_references.specs.Members.{method as method_of, implementing as implementing_of};
 
-use cs_grammar::{Cursor, Fault, expect};
+use cs_grammar::Fault;
+use cs_lex::{Cursor, expect};
 use cs_read_members::{more_parts, params};
 use cs_read_types::kinds::{COLONS, DOT, SEMICOLON};
 use cs_read_types::{any_name, name_text};
-use cs_token::Token;
 use cs_tree::{Explicit, Member, Name, Spot, TypeForm};
 use cs_units::{Implementing, Marked};
 use dc_base::{Or, Seq};
@@ -17,7 +17,7 @@ use std::alloc::Global;
 /// What stands behind the name of a method.
 pub fn method(
     alloc: Global,
-    tokens: &mut Cursor<Token>,
+    tokens: &mut Cursor,
     limit: u16,
     spot: Spot,
     marked: Marked,
@@ -44,7 +44,7 @@ pub fn method(
 /// What stands behind the `global` of a method that implements one by name.
 pub fn implementing(
     alloc: Global,
-    tokens: &mut Cursor<Token>,
+    tokens: &mut Cursor,
     limit: u16,
     spot: Spot,
     marked: Marked,

@@ -10,19 +10,19 @@ ghost use Rattle.cs_units.specs.Declarations.{one_more_type as one_more_type_of,
 ghost use Rattle.cs_references.specs.Declarations.{type_at, text_at};
 
 use crate::bodies::type_in_text;
-use cs_grammar::{Cursor, Fault, begins, expect};
+use cs_grammar::Fault;
+use cs_lex::{Cursor, begins, expect};
 use cs_read_modifiers::kinds::{DECLARATIONS, KW_NAMESPACE, SPACES};
 use cs_read_types::kinds::{BRACE, UNBRACE};
 use cs_read_types::place;
 use cs_read_units::placed_path;
-use cs_token::Token;
 use cs_tree::{Decl, Space, Unit};
 use dc_base::{Items, Or};
 use std::alloc::Global;
 
 fn one_more_type(
     alloc: Global,
-    tokens: &mut Cursor<Token>,
+    tokens: &mut Cursor,
     limit: u16,
     nesting: u16,
     mut before: Items<Decl>,
@@ -36,7 +36,7 @@ fn one_more_type(
 
 fn types(
     alloc: Global,
-    tokens: &mut Cursor<Token>,
+    tokens: &mut Cursor,
     limit: u16,
     nesting: u16,
 ) -> Result<Items<Decl>, Or<Fault>>
@@ -54,7 +54,7 @@ fn types(
 
 fn namespace(
     alloc: Global,
-    tokens: &mut Cursor<Token>,
+    tokens: &mut Cursor,
     limit: u16,
     nesting: u16,
 ) -> Result<Space, Or<Fault>>
@@ -75,7 +75,7 @@ fn namespace(
 
 fn space(
     alloc: Global,
-    tokens: &mut Cursor<Token>,
+    tokens: &mut Cursor,
     limit: u16,
     nesting: u16,
 ) -> Result<Space, Or<Fault>>
@@ -90,7 +90,7 @@ fn space(
 
 fn one_more_space(
     alloc: Global,
-    tokens: &mut Cursor<Token>,
+    tokens: &mut Cursor,
     limit: u16,
     nesting: u16,
     mut before: Items<Space>,
@@ -104,7 +104,7 @@ fn one_more_space(
 
 fn spaces(
     alloc: Global,
-    tokens: &mut Cursor<Token>,
+    tokens: &mut Cursor,
     limit: u16,
     nesting: u16,
 ) -> Result<Items<Space>, Or<Fault>>
@@ -123,7 +123,7 @@ fn spaces(
 /// A whole reference text, whose types have so many types open in one another. It leaves the tokens that begin no further part.
 pub fn reference_text(
     alloc: Global,
-    tokens: &mut Cursor<Token>,
+    tokens: &mut Cursor,
     limit: u16,
     nesting: u16,
 ) -> Result<Unit, Or<Fault>>

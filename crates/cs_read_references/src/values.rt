@@ -8,7 +8,8 @@ ghost use Rattle.cs_productions.specs.Tokens.{kind as kind_of, word_literal, lit
 ghost use Rattle.cs_statements.specs.Kinds.{literal_kinds};
 ghost use Rattle.cs_references.specs.Members.{literal_form, literal as literal_of_text, any_number, negative_of as negative_form, negative as negative_of, enclosed as enclosed_of, cast as cast_of, value as value_of};
 
-use cs_grammar::{Cursor, Fault, Kinded, begins, expect, take_one};
+use cs_grammar::Fault;
+use cs_lex::{Cursor, begins, expect, take_one};
 use cs_read_modifiers::kinds::NUMBER;
 use cs_read_types::kinds::{KW_NULL, KW_TRUE, MINUS, PAREN, UNPAREN};
 use cs_read_types::{place, spot, ty};
@@ -54,18 +55,18 @@ fn form(alloc: Global, token: &Token) -> Result<Form, NoMemory>
     })
 }
 
-fn literal(alloc: Global, tokens: &mut Cursor<Token>) -> Result<Form, Or<Fault>>
+fn literal(alloc: Global, tokens: &mut Cursor) -> Result<Form, Or<Fault>>
     ensures { Reads (literal_of_text.reads tokens.old) result tokens.new }
 {
     let token = take_one(tokens, &LITERALS)?;
-    Ok(form(alloc, token)?)
+    Ok(form(alloc, &token)?)
 }
 
-fn number(alloc: Global, tokens: &mut Cursor<Token>) -> Result<Form, Or<Fault>>
+fn number(alloc: Global, tokens: &mut Cursor) -> Result<Form, Or<Fault>>
     ensures { Reads (any_number.reads tokens.old) result tokens.new }
 {
     let token = take_one(tokens, &[NUMBER])?;
-    Ok(form(alloc, token)?)
+    Ok(form(alloc, &token)?)
 }
 
 // A number behind a minus.
@@ -80,7 +81,7 @@ fn negated(alloc: Global, spot: Spot, operand: Form) -> Result<Form, NoMemory>
     })
 }
 
-fn negative(alloc: Global, tokens: &mut Cursor<Token>) -> Result<Form, Or<Fault>>
+fn negative(alloc: Global, tokens: &mut Cursor) -> Result<Form, Or<Fault>>
     ensures { Reads (negative_of.reads tokens.old) result tokens.new }
 {
     let spot = place(tokens, MINUS)?;
@@ -89,7 +90,7 @@ fn negative(alloc: Global, tokens: &mut Cursor<Token>) -> Result<Form, Or<Fault>
 }
 
 // A number behind a minus, in parentheses.
-fn enclosed(alloc: Global, tokens: &mut Cursor<Token>) -> Result<Form, Or<Fault>>
+fn enclosed(alloc: Global, tokens: &mut Cursor) -> Result<Form, Or<Fault>>
     ensures { Reads (enclosed_of.reads tokens.old) result tokens.new }
 {
     let spot = place(tokens, PAREN)?;
@@ -99,7 +100,7 @@ fn enclosed(alloc: Global, tokens: &mut Cursor<Token>) -> Result<Form, Or<Fault>
     Ok(negated(alloc, spot, operand)?)
 }
 
-fn operand(alloc: Global, tokens: &mut Cursor<Token>) -> Result<Form, Or<Fault>>
+fn operand(alloc: Global, tokens: &mut Cursor) -> Result<Form, Or<Fault>>
     ensures { Reads ((either kind_of literal_kinds literal_of_text enclosed_of).reads tokens.old) result tokens.new }
 {
     if begins(tokens, &LITERALS) {
@@ -108,7 +109,7 @@ fn operand(alloc: Global, tokens: &mut Cursor<Token>) -> Result<Form, Or<Fault>>
     enclosed(alloc, tokens)
 }
 
-fn cast(alloc: Global, tokens: &mut Cursor<Token>, limit: u16) -> Result<Form, Or<Fault>>
+fn cast(alloc: Global, tokens: &mut Cursor, limit: u16) -> Result<Form, Or<Fault>>
     ensures { Reads ((cast_of limit).reads tokens.old) result tokens.new }
 {
     let spot = place(tokens, PAREN)?;
@@ -121,7 +122,7 @@ fn cast(alloc: Global, tokens: &mut Cursor<Token>, limit: u16) -> Result<Form, O
 
 fn negative_or_cast(
     alloc: Global,
-    tokens: &mut Cursor<Token>,
+    tokens: &mut Cursor,
     limit: u16,
 ) -> Result<Form, Or<Fault>>
     ensures { Reads ((either kind_of (minus ∷ []) negative_of (cast_of limit)).reads tokens.old) result tokens.new }
@@ -133,7 +134,7 @@ fn negative_or_cast(
 }
 
 /// A literal, a number behind a minus, or a cast of one.
-pub fn value(alloc: Global, tokens: &mut Cursor<Token>, limit: u16) -> Result<Form, Or<Fault>>
+pub fn value(alloc: Global, tokens: &mut Cursor, limit: u16) -> Result<Form, Or<Fault>>
     ensures { Reads ((value_of limit).reads tokens.old) result tokens.new }
 {
     if begins(tokens, &LITERALS) {

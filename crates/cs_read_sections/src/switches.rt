@@ -10,7 +10,8 @@ ghost use Rattle.cs_read_calls.specs.Asked.{inner_of, Asked};
 ghost use Rattle.cs_read_actions.specs.Place.{WholeRead};
 ghost use Rattle.cs_read_sections.specs.Tails.{done, switch_behind as switch_behind_of};
 
-use cs_grammar::{Cursor, Fault, Kinded, begins, expect, take_one};
+use cs_grammar::Fault;
+use cs_lex::{Cursor, begins, expect, take_one};
 use cs_productions::Measured;
 use cs_read_actions::{Place, blocks};
 use cs_read_calls::{Ask, Got, Level};
@@ -51,17 +52,17 @@ fn literal(alloc: Global, token: &Token) -> Result<Literal, NoMemory>
     }
 }
 
-fn case_label(alloc: Global, tokens: &mut Cursor<Token>) -> Result<SwitchLabel, Or<Fault>>
+fn case_label(alloc: Global, tokens: &mut Cursor) -> Result<SwitchLabel, Or<Fault>>
     ensures { Reads (case_label_of.reads tokens.old) result tokens.new }
 {
     let spot = place(tokens, KW_CASE)?;
     let token = take_one(tokens, &LITERALS)?;
     expect(tokens, COLON)?;
-    let literal = literal(alloc, token)?;
+    let literal = literal(alloc, &token)?;
     Ok(SwitchLabel::Case { spot, literal })
 }
 
-fn default_label(tokens: &mut Cursor<Token>) -> Result<SwitchLabel, Or<Fault>>
+fn default_label(tokens: &mut Cursor) -> Result<SwitchLabel, Or<Fault>>
     ensures { Reads (default_label_of.reads tokens.old) result tokens.new }
 {
     let spot = place(tokens, KW_DEFAULT)?;
@@ -69,7 +70,7 @@ fn default_label(tokens: &mut Cursor<Token>) -> Result<SwitchLabel, Or<Fault>>
     Ok(SwitchLabel::Default { spot })
 }
 
-fn label(alloc: Global, tokens: &mut Cursor<Token>) -> Result<SwitchLabel, Or<Fault>>
+fn label(alloc: Global, tokens: &mut Cursor) -> Result<SwitchLabel, Or<Fault>>
     ensures { Reads (label_of.reads tokens.old) result tokens.new }
 {
     if begins(tokens, &[KW_CASE]) {
@@ -80,7 +81,7 @@ fn label(alloc: Global, tokens: &mut Cursor<Token>) -> Result<SwitchLabel, Or<Fa
 
 fn one_more_label(
     alloc: Global,
-    tokens: &mut Cursor<Token>,
+    tokens: &mut Cursor,
     mut labels: Seq<SwitchLabel>,
 ) -> Result<Seq<SwitchLabel>, Or<Fault>>
     ensures { Reads ((one_more_label_of labels).reads tokens.old) result tokens.new }
@@ -92,7 +93,7 @@ fn one_more_label(
 
 fn more_labels(
     alloc: Global,
-    tokens: &mut Cursor<Token>,
+    tokens: &mut Cursor,
     first: Seq<SwitchLabel>,
 ) -> Result<Seq<SwitchLabel>, Or<Fault>>
     ensures { Reads ((turns kind_of (kw_case ∷ kw_default ∷ []) (λ _. true) one_more_label_of first).reads tokens.old) result tokens.new }
@@ -107,10 +108,10 @@ fn more_labels(
     Ok(labels)
 }
 
-fn section<F: Fn(Global, &mut Cursor<Token>, Ask) -> Result<Got, Or<Fault>>>(
+fn section<F: Fn(Global, &mut Cursor, Ask) -> Result<Got, Or<Fault>>>(
     level: &Level<F>,
     alloc: Global,
-    tokens: &mut Cursor<Token>,
+    tokens: &mut Cursor,
 ) -> Result<Section, Or<Fault>>
     requires callable { F.IsAlwaysCallable level.now.read }
     requires exact { (alloc : _) (tokens : _) (ask : _) (result : _) (after : _) → F.post level.now.read alloc tokens ask result after → Asked level.now.at ask tokens.now result after.now }
@@ -124,10 +125,10 @@ fn section<F: Fn(Global, &mut Cursor<Token>, Ask) -> Result<Got, Or<Fault>>>(
     Ok(Section { labels, block })
 }
 
-fn one_more_section<F: Fn(Global, &mut Cursor<Token>, Ask) -> Result<Got, Or<Fault>>>(
+fn one_more_section<F: Fn(Global, &mut Cursor, Ask) -> Result<Got, Or<Fault>>>(
     level: &Level<F>,
     alloc: Global,
-    tokens: &mut Cursor<Token>,
+    tokens: &mut Cursor,
     mut sections: Items<Section>,
 ) -> Result<Items<Section>, Or<Fault>>
     requires callable { F.IsAlwaysCallable level.now.read }
@@ -139,10 +140,10 @@ fn one_more_section<F: Fn(Global, &mut Cursor<Token>, Ask) -> Result<Got, Or<Fau
     Ok(sections)
 }
 
-fn sections<F: Fn(Global, &mut Cursor<Token>, Ask) -> Result<Got, Or<Fault>>>(
+fn sections<F: Fn(Global, &mut Cursor, Ask) -> Result<Got, Or<Fault>>>(
     level: &Level<F>,
     alloc: Global,
-    tokens: &mut Cursor<Token>,
+    tokens: &mut Cursor,
 ) -> Result<Items<Section>, Or<Fault>>
     requires callable { F.IsAlwaysCallable level.now.read }
     requires exact { (alloc : _) (tokens : _) (ask : _) (result : _) (after : _) → F.post level.now.read alloc tokens ask result after → Asked level.now.at ask tokens.now result after.now }
@@ -162,7 +163,7 @@ fn sections<F: Fn(Global, &mut Cursor<Token>, Ask) -> Result<Got, Or<Fault>>>(
 }
 
 /// A sign behind what was read, which goes where it isn't there.
-fn ended<A: Drop>(tokens: &mut Cursor<Token>, end: u16, read: A) -> Result<A, Or<Fault>>
+fn ended<A: Drop>(tokens: &mut Cursor, end: u16, read: A) -> Result<A, Or<Fault>>
     ensures same { IfOk result (λ a. a ≡ read) }
     ensures reads { Reads ((sign end).reads tokens.old) (done result) tokens.new }
 {
@@ -170,10 +171,10 @@ fn ended<A: Drop>(tokens: &mut Cursor<Token>, end: u16, read: A) -> Result<A, Or
     Ok(read)
 }
 
-fn switch_behind<F: Fn(Global, &mut Cursor<Token>, Ask) -> Result<Got, Or<Fault>>>(
+fn switch_behind<F: Fn(Global, &mut Cursor, Ask) -> Result<Got, Or<Fault>>>(
     level: &Level<F>,
     alloc: Global,
-    tokens: &mut Cursor<Token>,
+    tokens: &mut Cursor,
     spot: Spot,
     value: Form,
 ) -> Result<Syntax, Or<Fault>>
@@ -193,9 +194,9 @@ fn switch_behind<F: Fn(Global, &mut Cursor<Token>, Ask) -> Result<Got, Or<Fault>
 
 /// `switch (a) { case 7: { } }`
 pub fn of_switch<
-    F: Fn(Global, &mut Cursor<Token>, Ask) -> Result<Got, Or<Fault>>,
-    G: Fn(Global, &mut Cursor<Token>) -> Result<Measured, Or<Fault>>,
->(here: &Place<F, G>, alloc: Global, tokens: &mut Cursor<Token>) -> Result<Syntax, Or<Fault>>
+    F: Fn(Global, &mut Cursor, Ask) -> Result<Got, Or<Fault>>,
+    G: Fn(Global, &mut Cursor) -> Result<Measured, Or<Fault>>,
+>(here: &Place<F, G>, alloc: Global, tokens: &mut Cursor) -> Result<Syntax, Or<Fault>>
     requires callable { F.IsAlwaysCallable here.now.level.read }
     requires exact { (alloc : _) (tokens : _) (ask : _) (result : _) (after : _) → F.post here.now.level.read alloc tokens ask result after → Asked here.now.level.at ask tokens.now result after.now }
     requires whole_callable { G.IsAlwaysCallable here.now.whole }

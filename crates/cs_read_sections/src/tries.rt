@@ -8,19 +8,19 @@ ghost use Rattle.cs_productions.specs.Tokens.{kind as kind_of};
 ghost use Rattle.cs_statements.specs.Structured.{maybe_name as maybe_name_of, catching as catching_of, one_more_catching as one_more_catching_of, of_try as of_try_of};
 ghost use Rattle.cs_read_calls.specs.Asked.{inner_of, Asked};
 
-use cs_grammar::{Cursor, Fault, begins, expect};
+use cs_grammar::Fault;
+use cs_lex::{Cursor, begins, expect};
 use cs_read_actions::pairs;
 use cs_read_calls::{Ask, Got, Level};
 use cs_read_heads::kinds::{KW_CATCH, KW_FINALLY, KW_TRY};
 use cs_read_heads::maybe_block;
 use cs_read_types::kinds::{NAMES, PAREN, UNPAREN};
 use cs_read_types::{any_name, place, ty};
-use cs_token::Token;
 use cs_tree::{Catching, Name, Syntax};
 use dc_base::{Items, Or};
 use std::alloc::Global;
 
-fn maybe_name(alloc: Global, tokens: &mut Cursor<Token>) -> Result<Option<Name>, Or<Fault>>
+fn maybe_name(alloc: Global, tokens: &mut Cursor) -> Result<Option<Name>, Or<Fault>>
     ensures { Reads (maybe_name_of.reads tokens.old) result tokens.new }
 {
     if !begins(tokens, &NAMES) {
@@ -30,10 +30,10 @@ fn maybe_name(alloc: Global, tokens: &mut Cursor<Token>) -> Result<Option<Name>,
     Ok(Some(name))
 }
 
-fn catching<F: Fn(Global, &mut Cursor<Token>, Ask) -> Result<Got, Or<Fault>>>(
+fn catching<F: Fn(Global, &mut Cursor, Ask) -> Result<Got, Or<Fault>>>(
     level: &Level<F>,
     alloc: Global,
-    tokens: &mut Cursor<Token>,
+    tokens: &mut Cursor,
 ) -> Result<Catching, Or<Fault>>
     requires callable { F.IsAlwaysCallable level.now.read }
     requires exact { (alloc : _) (tokens : _) (ask : _) (result : _) (after : _) → F.post level.now.read alloc tokens ask result after → Asked level.now.at ask tokens.now result after.now }
@@ -53,10 +53,10 @@ fn catching<F: Fn(Global, &mut Cursor<Token>, Ask) -> Result<Got, Or<Fault>>>(
     })
 }
 
-fn one_more_catching<F: Fn(Global, &mut Cursor<Token>, Ask) -> Result<Got, Or<Fault>>>(
+fn one_more_catching<F: Fn(Global, &mut Cursor, Ask) -> Result<Got, Or<Fault>>>(
     level: &Level<F>,
     alloc: Global,
-    tokens: &mut Cursor<Token>,
+    tokens: &mut Cursor,
     mut catches: Items<Catching>,
 ) -> Result<Items<Catching>, Or<Fault>>
     requires callable { F.IsAlwaysCallable level.now.read }
@@ -68,10 +68,10 @@ fn one_more_catching<F: Fn(Global, &mut Cursor<Token>, Ask) -> Result<Got, Or<Fa
     Ok(catches)
 }
 
-fn catches<F: Fn(Global, &mut Cursor<Token>, Ask) -> Result<Got, Or<Fault>>>(
+fn catches<F: Fn(Global, &mut Cursor, Ask) -> Result<Got, Or<Fault>>>(
     level: &Level<F>,
     alloc: Global,
-    tokens: &mut Cursor<Token>,
+    tokens: &mut Cursor,
 ) -> Result<Items<Catching>, Or<Fault>>
     requires callable { F.IsAlwaysCallable level.now.read }
     requires exact { (alloc : _) (tokens : _) (ask : _) (result : _) (after : _) → F.post level.now.read alloc tokens ask result after → Asked level.now.at ask tokens.now result after.now }
@@ -88,10 +88,10 @@ fn catches<F: Fn(Global, &mut Cursor<Token>, Ask) -> Result<Got, Or<Fault>>>(
 }
 
 /// `try { } catch (global::A.B x) { } finally { }`
-pub fn of_try<F: Fn(Global, &mut Cursor<Token>, Ask) -> Result<Got, Or<Fault>>>(
+pub fn of_try<F: Fn(Global, &mut Cursor, Ask) -> Result<Got, Or<Fault>>>(
     level: &Level<F>,
     alloc: Global,
-    tokens: &mut Cursor<Token>,
+    tokens: &mut Cursor,
 ) -> Result<Syntax, Or<Fault>>
     requires callable { F.IsAlwaysCallable level.now.read }
     requires exact { (alloc : _) (tokens : _) (ask : _) (result : _) (after : _) → F.post level.now.read alloc tokens ask result after → Asked level.now.at ask tokens.now result after.now }

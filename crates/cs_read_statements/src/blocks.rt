@@ -11,7 +11,8 @@ ghost use Rattle.cs_read_calls.specs.Asked.{inner_of, Asked};
 ghost use Rattle.cs_read_actions.specs.Place.{WholeRead};
 ghost use Rattle.cs_read_statements.specs.Tails.{untested as untested_of};
 
-use cs_grammar::{Cursor, Fault, begins, expect};
+use cs_grammar::Fault;
+use cs_lex::{Cursor, begins, expect};
 use cs_productions::Measured;
 use cs_read_actions::kinds::PLAIN_NAMES;
 use cs_read_actions::{Place, blocks, jump, keyword_declared};
@@ -24,7 +25,6 @@ use cs_read_heads::{of_do, of_for, of_foreach, of_if, of_lock, of_using, of_whil
 use cs_read_sections::{of_switch, of_try};
 use cs_read_types::kinds::{BRACE, GLOBAL, KEYWORD_TYPES, UNBRACE};
 use cs_read_types::place;
-use cs_token::Token;
 use cs_tree::{Block, Syntax};
 use dc_base::{Items, Or};
 use std::alloc::Global;
@@ -43,9 +43,9 @@ const STATEMENTS: [u16; 45] = [
 
 /// A statement that holds blocks, but one on a test.
 fn untested<
-    F: Fn(Global, &mut Cursor<Token>, Ask) -> Result<Got, Or<Fault>>,
-    G: Fn(Global, &mut Cursor<Token>) -> Result<Measured, Or<Fault>>,
->(here: &Place<F, G>, alloc: Global, tokens: &mut Cursor<Token>) -> Result<Syntax, Or<Fault>>
+    F: Fn(Global, &mut Cursor, Ask) -> Result<Got, Or<Fault>>,
+    G: Fn(Global, &mut Cursor) -> Result<Measured, Or<Fault>>,
+>(here: &Place<F, G>, alloc: Global, tokens: &mut Cursor) -> Result<Syntax, Or<Fault>>
     requires callable { F.IsAlwaysCallable here.now.level.read }
     requires exact { (alloc : _) (tokens : _) (ask : _) (result : _) (after : _) → F.post here.now.level.read alloc tokens ask result after → Asked here.now.level.at ask tokens.now result after.now }
     requires whole_callable { G.IsAlwaysCallable here.now.whole }
@@ -66,9 +66,9 @@ fn untested<
 
 /// A statement that holds blocks.
 fn structured<
-    F: Fn(Global, &mut Cursor<Token>, Ask) -> Result<Got, Or<Fault>>,
-    G: Fn(Global, &mut Cursor<Token>) -> Result<Measured, Or<Fault>>,
->(here: &Place<F, G>, alloc: Global, tokens: &mut Cursor<Token>) -> Result<Syntax, Or<Fault>>
+    F: Fn(Global, &mut Cursor, Ask) -> Result<Got, Or<Fault>>,
+    G: Fn(Global, &mut Cursor) -> Result<Measured, Or<Fault>>,
+>(here: &Place<F, G>, alloc: Global, tokens: &mut Cursor) -> Result<Syntax, Or<Fault>>
     requires callable { F.IsAlwaysCallable here.now.level.read }
     requires exact { (alloc : _) (tokens : _) (ask : _) (result : _) (after : _) → F.post here.now.level.read alloc tokens ask result after → Asked here.now.level.at ask tokens.now result after.now }
     requires whole_callable { G.IsAlwaysCallable here.now.whole }
@@ -92,9 +92,9 @@ fn structured<
 
 /// A statement without a block of its own.
 fn simple_statement<
-    F: Fn(Global, &mut Cursor<Token>, Ask) -> Result<Got, Or<Fault>>,
-    G: Fn(Global, &mut Cursor<Token>) -> Result<Measured, Or<Fault>>,
->(here: &Place<F, G>, alloc: Global, tokens: &mut Cursor<Token>) -> Result<Syntax, Or<Fault>>
+    F: Fn(Global, &mut Cursor, Ask) -> Result<Got, Or<Fault>>,
+    G: Fn(Global, &mut Cursor) -> Result<Measured, Or<Fault>>,
+>(here: &Place<F, G>, alloc: Global, tokens: &mut Cursor) -> Result<Syntax, Or<Fault>>
     requires callable { F.IsAlwaysCallable here.now.level.read }
     requires exact { (alloc : _) (tokens : _) (ask : _) (result : _) (after : _) → F.post here.now.level.read alloc tokens ask result after → Asked here.now.level.at ask tokens.now result after.now }
     requires whole_callable { G.IsAlwaysCallable here.now.whole }
@@ -121,9 +121,9 @@ fn simple_statement<
 
 /// A statement.
 pub fn statement<
-    F: Fn(Global, &mut Cursor<Token>, Ask) -> Result<Got, Or<Fault>>,
-    G: Fn(Global, &mut Cursor<Token>) -> Result<Measured, Or<Fault>>,
->(here: &Place<F, G>, alloc: Global, tokens: &mut Cursor<Token>) -> Result<Syntax, Or<Fault>>
+    F: Fn(Global, &mut Cursor, Ask) -> Result<Got, Or<Fault>>,
+    G: Fn(Global, &mut Cursor) -> Result<Measured, Or<Fault>>,
+>(here: &Place<F, G>, alloc: Global, tokens: &mut Cursor) -> Result<Syntax, Or<Fault>>
     requires callable { F.IsAlwaysCallable here.now.level.read }
     requires exact { (alloc : _) (tokens : _) (ask : _) (result : _) (after : _) → F.post here.now.level.read alloc tokens ask result after → Asked here.now.level.at ask tokens.now result after.now }
     requires whole_callable { G.IsAlwaysCallable here.now.whole }
@@ -140,12 +140,12 @@ pub fn statement<
 }
 
 fn one_more_statement<
-    F: Fn(Global, &mut Cursor<Token>, Ask) -> Result<Got, Or<Fault>>,
-    G: Fn(Global, &mut Cursor<Token>) -> Result<Measured, Or<Fault>>,
+    F: Fn(Global, &mut Cursor, Ask) -> Result<Got, Or<Fault>>,
+    G: Fn(Global, &mut Cursor) -> Result<Measured, Or<Fault>>,
 >(
     here: &Place<F, G>,
     alloc: Global,
-    tokens: &mut Cursor<Token>,
+    tokens: &mut Cursor,
     mut stmts: Items<Syntax>,
 ) -> Result<Items<Syntax>, Or<Fault>>
     requires callable { F.IsAlwaysCallable here.now.level.read }
@@ -160,9 +160,9 @@ fn one_more_statement<
 }
 
 fn statements<
-    F: Fn(Global, &mut Cursor<Token>, Ask) -> Result<Got, Or<Fault>>,
-    G: Fn(Global, &mut Cursor<Token>) -> Result<Measured, Or<Fault>>,
->(here: &Place<F, G>, alloc: Global, tokens: &mut Cursor<Token>) -> Result<Items<Syntax>, Or<Fault>>
+    F: Fn(Global, &mut Cursor, Ask) -> Result<Got, Or<Fault>>,
+    G: Fn(Global, &mut Cursor) -> Result<Measured, Or<Fault>>,
+>(here: &Place<F, G>, alloc: Global, tokens: &mut Cursor) -> Result<Items<Syntax>, Or<Fault>>
     requires callable { F.IsAlwaysCallable here.now.level.read }
     requires exact { (alloc : _) (tokens : _) (ask : _) (result : _) (after : _) → F.post here.now.level.read alloc tokens ask result after → Asked here.now.level.at ask tokens.now result after.now }
     requires whole_callable { G.IsAlwaysCallable here.now.whole }
@@ -180,9 +180,9 @@ fn statements<
 }
 
 fn braced<
-    F: Fn(Global, &mut Cursor<Token>, Ask) -> Result<Got, Or<Fault>>,
-    G: Fn(Global, &mut Cursor<Token>) -> Result<Measured, Or<Fault>>,
->(here: &Place<F, G>, alloc: Global, tokens: &mut Cursor<Token>) -> Result<Block, Or<Fault>>
+    F: Fn(Global, &mut Cursor, Ask) -> Result<Got, Or<Fault>>,
+    G: Fn(Global, &mut Cursor) -> Result<Measured, Or<Fault>>,
+>(here: &Place<F, G>, alloc: Global, tokens: &mut Cursor) -> Result<Block, Or<Fault>>
     requires callable { F.IsAlwaysCallable here.now.level.read }
     requires exact { (alloc : _) (tokens : _) (ask : _) (result : _) (after : _) → F.post here.now.level.read alloc tokens ask result after → Asked here.now.level.at ask tokens.now result after.now }
     requires whole_callable { G.IsAlwaysCallable here.now.whole }
@@ -198,9 +198,9 @@ fn braced<
 /// A block whose statements stand at this place: one block more may be open with it than in it, and an expression in it has all its
 /// levels.
 pub fn block<
-    F: Fn(Global, &mut Cursor<Token>, Ask) -> Result<Got, Or<Fault>>,
-    G: Fn(Global, &mut Cursor<Token>) -> Result<Measured, Or<Fault>>,
->(here: &Place<F, G>, alloc: Global, tokens: &mut Cursor<Token>) -> Result<Block, Or<Fault>>
+    F: Fn(Global, &mut Cursor, Ask) -> Result<Got, Or<Fault>>,
+    G: Fn(Global, &mut Cursor) -> Result<Measured, Or<Fault>>,
+>(here: &Place<F, G>, alloc: Global, tokens: &mut Cursor) -> Result<Block, Or<Fault>>
     requires callable { F.IsAlwaysCallable here.now.level.read }
     requires exact { (alloc : _) (tokens : _) (ask : _) (result : _) (after : _) → F.post here.now.level.read alloc tokens ask result after → Asked here.now.level.at ask tokens.now result after.now }
     requires whole_callable { G.IsAlwaysCallable here.now.whole }
@@ -212,7 +212,7 @@ pub fn block<
 }
 
 /// A block where none may be opened: nothing can stand in it.
-pub fn empty_block(alloc: Global, tokens: &mut Cursor<Token>) -> Result<Block, Or<Fault>>
+pub fn empty_block(alloc: Global, tokens: &mut Cursor) -> Result<Block, Or<Fault>>
     ensures { Reads (empty_block_of.reads tokens.old) result tokens.new }
 {
     expect(tokens, BRACE)?;

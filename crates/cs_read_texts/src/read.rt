@@ -8,8 +8,8 @@ ghost use Rattle.cs_read_texts.specs.Texts.{within, beyond, IsRead};
 ghost use Rattle.cs_read_texts.specs.Told.{at_end as at_end_of, at_token as at_token_of, fault_of, whole_of, told as told_of};
 
 use crate::ReadFault;
-use cs_grammar::{Cursor, Fault};
-use cs_lex::{Tokens, cut};
+use cs_grammar::Fault;
+use cs_lex::{Cursor, Tokens, cut};
 use cs_read_calls::{Ask, Got, Level};
 use cs_read_references::reference_text;
 use cs_read_units::unit;
@@ -38,7 +38,7 @@ fn at_end(cut: &Tokens) -> ReadFault
     }
 }
 
-fn fault_at(cut: &Tokens, left: &Cursor<Token>, fault: Fault) -> ReadFault
+fn fault_at(cut: &Tokens, left: &Cursor, fault: Fault) -> ReadFault
     ensures { result ≡ fault_of cut.now left.now fault }
 {
     match left.peek() {
@@ -47,7 +47,7 @@ fn fault_at(cut: &Tokens, left: &Cursor<Token>, fault: Fault) -> ReadFault
     }
 }
 
-fn whole(cut: &Tokens, left: &Cursor<Token>, unit: Unit) -> Result<Unit, Or<ReadFault>>
+fn whole(cut: &Tokens, left: &Cursor, unit: Unit) -> Result<Unit, Or<ReadFault>>
     ensures { result ≡ whole_of cut.now left.now unit }
 {
     match left.peek() {
@@ -60,7 +60,7 @@ fn whole(cut: &Tokens, left: &Cursor<Token>, unit: Unit) -> Result<Unit, Or<Read
 /// What was read of a whole text, where these tokens are left.
 fn told(
     cut: &Tokens,
-    left: &Cursor<Token>,
+    left: &Cursor,
     read: Result<Unit, Or<Fault>>,
 ) -> Result<Unit, Or<ReadFault>>
     ensures { result ≡ told_of cut.now left.now read }
@@ -74,7 +74,7 @@ fn told(
 
 /// The tree of a text within the depths of this level, whose types have at most so many types open in one another. The level is one
 /// below a whole expression.
-pub fn unit_of_text<F: Fn(Global, &mut Cursor<Token>, Ask) -> Result<Got, Or<Fault>>>(
+pub fn unit_of_text<F: Fn(Global, &mut Cursor, Ask) -> Result<Got, Or<Fault>>>(
     level: &Level<F>,
     alloc: Global,
     source: &str,

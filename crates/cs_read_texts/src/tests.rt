@@ -4,9 +4,9 @@ ghost use Rattle.std.specs.Prelude.{◌≡◌, Err};
 ghost use Rattle.dc_base.specs.declared.failure.Or.TheVariants.{NoMemory as WithoutMemory};
 
 use super::*;
-use cs_grammar::{Cursor, Fault};
+use cs_grammar::Fault;
+use cs_lex::Cursor;
 use cs_read_calls::{Ask, Depth, Got, Level};
-use cs_token::Token;
 use cs_tree::{Decl, Item, Member, Space, Unit};
 use dc_base::Or;
 use std::alloc::Global;
@@ -14,7 +14,7 @@ use std::fmt::Write;
 use std::test::Fail;
 
 /// No expression and no block.
-fn nothing(_: Global, _: &mut Cursor<Token>, _: Ask) -> Result<Got, Or<Fault>>
+fn nothing(_: Global, _: &mut Cursor, _: Ask) -> Result<Got, Or<Fault>>
     ensures { result ≡ Err WithoutMemory }
 {
     Err(Or::NoMemory)

@@ -13,7 +13,8 @@ use crate::kinds::{
     UNEQUAL,
 };
 use crate::words::{spot, text};
-use cs_grammar::{Cursor, Fault, Kinded, take_one};
+use cs_grammar::Fault;
+use cs_lex::{Cursor, take_one};
 use cs_productions::Measured;
 use cs_token::{Lexeme, Token};
 use cs_tree::{BinaryOp, Form, Literal, UnaryOp};
@@ -61,26 +62,26 @@ fn form(alloc: Global, token: &Token) -> Result<Form, NoMemory>
 }
 
 /// Takes a name, a literal or `this`.
-pub fn simple(alloc: Global, tokens: &mut Cursor<Token>) -> Result<Measured, Or<Fault>>
+pub fn simple(alloc: Global, tokens: &mut Cursor) -> Result<Measured, Or<Fault>>
     ensures { Reads (simple_of.reads tokens.old) result tokens.new }
 {
     let token = take_one(tokens, &SIMPLE)?;
-    let form = form(alloc, token)?;
+    let form = form(alloc, &token)?;
     Ok(Measured {
         form,
         height: 0,
-        spot: spot(token),
+        spot: spot(&token),
         is_call: false,
     })
 }
 
 /// Takes the name `global`.
-pub fn global_leaf(alloc: Global, tokens: &mut Cursor<Token>) -> Result<Measured, Or<Fault>>
+pub fn global_leaf(alloc: Global, tokens: &mut Cursor) -> Result<Measured, Or<Fault>>
     ensures { Reads ((one kind_of (global ∷ []) global_leaf_of).reads tokens.old) result tokens.new }
 {
     let token = take_one(tokens, &[GLOBAL])?;
-    let text = text(alloc, token)?;
-    let spot = spot(token);
+    let text = text(alloc, &token)?;
+    let spot = spot(&token);
     Ok(Measured {
         form: Form::Name { spot, text },
         height: 0,
@@ -90,7 +91,7 @@ pub fn global_leaf(alloc: Global, tokens: &mut Cursor<Token>) -> Result<Measured
 }
 
 /// Takes one operator of these kinds, for its kind.
-pub fn operator(tokens: &mut Cursor<Token>, kinds: &[u16]) -> Result<u16, Fault>
+pub fn operator(tokens: &mut Cursor, kinds: &[u16]) -> Result<u16, Fault>
     ensures { Finds ((one kind_of kinds.now kind_of).reads tokens.old) result tokens.new }
 {
     Ok(take_one(tokens, kinds)?.kind())

@@ -6,15 +6,15 @@ ghost use Rattle.cs_productions.specs.Types.{one_more_name as one_more_name_of, 
 
 use crate::kinds::{BRACKET, COLONS, COMMA, DOT, GLOBAL, KEYWORD_TYPES, KW_OUT, KW_REF, UNBRACKET};
 use crate::words::{any_name, given_way, keyword_named, name_text, place};
-use cs_grammar::{Cursor, Fault, begins, expect};
-use cs_token::Token;
+use cs_grammar::Fault;
+use cs_lex::{Cursor, begins, expect};
 use cs_tree::{Param, TypeForm, TypeName, Way};
 use dc_base::{Or, Seq, Text};
 use std::alloc::Global;
 
 fn one_more_name(
     alloc: Global,
-    tokens: &mut Cursor<Token>,
+    tokens: &mut Cursor,
     mut names: Seq<Text>,
 ) -> Result<Seq<Text>, Or<Fault>>
     ensures { Reads ((one_more_name_of names).reads tokens.old) result tokens.new }
@@ -26,7 +26,7 @@ fn one_more_name(
 }
 
 /// `A.B.C`: all names that stand behind one another.
-pub fn path(alloc: Global, tokens: &mut Cursor<Token>) -> Result<Seq<Text>, Or<Fault>>
+pub fn path(alloc: Global, tokens: &mut Cursor) -> Result<Seq<Text>, Or<Fault>>
     ensures { Reads (path_of.reads tokens.old) result tokens.new }
 {
     let first = name_text(alloc, tokens)?;
@@ -41,7 +41,7 @@ pub fn path(alloc: Global, tokens: &mut Cursor<Token>) -> Result<Seq<Text>, Or<F
     Ok(names)
 }
 
-fn type_by_path(alloc: Global, tokens: &mut Cursor<Token>) -> Result<TypeForm, Or<Fault>>
+fn type_by_path(alloc: Global, tokens: &mut Cursor) -> Result<TypeForm, Or<Fault>>
     ensures { Reads (type_by_path_of.reads tokens.old) result tokens.new }
 {
     let spot = place(tokens, GLOBAL)?;
@@ -55,7 +55,7 @@ fn type_by_path(alloc: Global, tokens: &mut Cursor<Token>) -> Result<TypeForm, O
 }
 
 /// A type without brackets.
-pub fn named_type(alloc: Global, tokens: &mut Cursor<Token>) -> Result<TypeForm, Or<Fault>>
+pub fn named_type(alloc: Global, tokens: &mut Cursor) -> Result<TypeForm, Or<Fault>>
     ensures { Reads (named_type_of.reads tokens.old) result tokens.new }
 {
     if begins(tokens, &KEYWORD_TYPES) {
@@ -64,7 +64,7 @@ pub fn named_type(alloc: Global, tokens: &mut Cursor<Token>) -> Result<TypeForm,
     type_by_path(alloc, tokens)
 }
 
-fn one_more_rank(tokens: &mut Cursor<Token>, ty: TypeForm) -> Result<TypeForm, Or<Fault>>
+fn one_more_rank(tokens: &mut Cursor, ty: TypeForm) -> Result<TypeForm, Or<Fault>>
     requires { ty.ranks < 65536 }
     ensures { Reads ((one_more_rank_of ty).reads tokens.old) result tokens.new }
 {
@@ -77,7 +77,7 @@ fn one_more_rank(tokens: &mut Cursor<Token>, ty: TypeForm) -> Result<TypeForm, O
 }
 
 /// The pairs of brackets behind a type, which may have at most so many.
-pub fn ranks(tokens: &mut Cursor<Token>, limit: u16, first: TypeForm) -> Result<TypeForm, Or<Fault>>
+pub fn ranks(tokens: &mut Cursor, limit: u16, first: TypeForm) -> Result<TypeForm, Or<Fault>>
     ensures { Reads ((ranks_of limit first).reads tokens.old) result tokens.new }
 {
     let mut ty = first;
@@ -94,7 +94,7 @@ pub fn ranks(tokens: &mut Cursor<Token>, limit: u16, first: TypeForm) -> Result<
 }
 
 /// A type that begins with a keyword.
-pub fn type_of_keyword(tokens: &mut Cursor<Token>, limit: u16) -> Result<TypeForm, Or<Fault>>
+pub fn type_of_keyword(tokens: &mut Cursor, limit: u16) -> Result<TypeForm, Or<Fault>>
     ensures { Reads ((type_of_keyword_of limit).reads tokens.old) result tokens.new }
 {
     let ty = keyword_named(tokens)?;
@@ -102,7 +102,7 @@ pub fn type_of_keyword(tokens: &mut Cursor<Token>, limit: u16) -> Result<TypeFor
 }
 
 /// A type.
-pub fn ty(alloc: Global, tokens: &mut Cursor<Token>, limit: u16) -> Result<TypeForm, Or<Fault>>
+pub fn ty(alloc: Global, tokens: &mut Cursor, limit: u16) -> Result<TypeForm, Or<Fault>>
     ensures { Reads ((ty_of limit).reads tokens.old) result tokens.new }
 {
     let ty = named_type(alloc, tokens)?;
@@ -110,7 +110,7 @@ pub fn ty(alloc: Global, tokens: &mut Cursor<Token>, limit: u16) -> Result<TypeF
 }
 
 /// How a parameter or an argument is passed.
-pub fn way(tokens: &mut Cursor<Token>) -> Result<Way, Fault>
+pub fn way(tokens: &mut Cursor) -> Result<Way, Fault>
     ensures { Finds (way_of.reads tokens.old) result tokens.new }
 {
     if begins(tokens, &[KW_REF, KW_OUT]) {
@@ -120,7 +120,7 @@ pub fn way(tokens: &mut Cursor<Token>) -> Result<Way, Fault>
 }
 
 /// A parameter.
-pub fn param(alloc: Global, tokens: &mut Cursor<Token>, limit: u16) -> Result<Param, Or<Fault>>
+pub fn param(alloc: Global, tokens: &mut Cursor, limit: u16) -> Result<Param, Or<Fault>>
     ensures { Reads ((param_of limit).reads tokens.old) result tokens.new }
 {
     let way = way(tokens)?;
@@ -132,7 +132,7 @@ pub fn param(alloc: Global, tokens: &mut Cursor<Token>, limit: u16) -> Result<Pa
 /// A parameter that begins with `ref` or `out`.
 pub fn passed_param(
     alloc: Global,
-    tokens: &mut Cursor<Token>,
+    tokens: &mut Cursor,
     limit: u16,
 ) -> Result<Param, Or<Fault>>
     ensures { Reads ((passed_param_of limit).reads tokens.old) result tokens.new }
@@ -145,7 +145,7 @@ pub fn passed_param(
 
 fn one_more_param(
     alloc: Global,
-    tokens: &mut Cursor<Token>,
+    tokens: &mut Cursor,
     limit: u16,
     mut params: Seq<Param>,
 ) -> Result<Seq<Param>, Or<Fault>>
@@ -160,7 +160,7 @@ fn one_more_param(
 /// The parameters behind the first ones.
 pub fn more_params(
     alloc: Global,
-    tokens: &mut Cursor<Token>,
+    tokens: &mut Cursor,
     limit: u16,
     first: Seq<Param>,
 ) -> Result<Seq<Param>, Or<Fault>>

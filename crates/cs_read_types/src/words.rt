@@ -9,7 +9,8 @@ use crate::kinds::{
     KEYWORD_TYPES, KW_BOOL, KW_BYTE, KW_CHAR, KW_INT, KW_LONG, KW_OBJECT, KW_OUT, KW_REF, KW_SBYTE,
     KW_SHORT, KW_UINT, KW_ULONG, KW_USHORT, NAMES,
 };
-use cs_grammar::{Cursor, Fault, Kinded, take_one};
+use cs_grammar::Fault;
+use cs_lex::{Cursor, take_one};
 use cs_token::{Lexeme, Token};
 use cs_tree::{KeywordType, Name, Spot, TypeForm, TypeName, Way};
 use dc_base::{NoMemory, Or, Text};
@@ -26,10 +27,10 @@ pub fn spot(token: &Token) -> Spot
 }
 
 /// Takes one token of this kind, for its place.
-pub fn place(tokens: &mut Cursor<Token>, kind: u16) -> Result<Spot, Fault>
+pub fn place(tokens: &mut Cursor, kind: u16) -> Result<Spot, Fault>
     ensures { Finds ((place_of kind).reads tokens.old) result tokens.new }
 {
-    Ok(spot(take_one(tokens, &[kind])?))
+    Ok(spot(&take_one(tokens, &[kind])?))
 }
 
 /// The text of a name; a token that is none has no text.
@@ -43,21 +44,21 @@ pub fn text(alloc: Global, token: &Token) -> Result<Text, NoMemory>
 }
 
 /// Takes a name, for its text.
-pub fn name_text(alloc: Global, tokens: &mut Cursor<Token>) -> Result<Text, Or<Fault>>
+pub fn name_text(alloc: Global, tokens: &mut Cursor) -> Result<Text, Or<Fault>>
     ensures { Reads (name_text_of.reads tokens.old) result tokens.new }
 {
     let token = take_one(tokens, &NAMES)?;
-    Ok(text(alloc, token)?)
+    Ok(text(alloc, &token)?)
 }
 
 /// Takes a name, for its text and its place.
-pub fn any_name(alloc: Global, tokens: &mut Cursor<Token>) -> Result<Name, Or<Fault>>
+pub fn any_name(alloc: Global, tokens: &mut Cursor) -> Result<Name, Or<Fault>>
     ensures { Reads (any_name_of.reads tokens.old) result tokens.new }
 {
     let token = take_one(tokens, &NAMES)?;
-    let text = text(alloc, token)?;
+    let text = text(alloc, &token)?;
     Ok(Name {
-        spot: spot(token),
+        spot: spot(&token),
         text,
     })
 }
@@ -83,12 +84,12 @@ fn keyword_type(kind: u16) -> KeywordType
 }
 
 /// Takes a keyword that names a type.
-pub(crate) fn keyword_named(tokens: &mut Cursor<Token>) -> Result<TypeForm, Fault>
+pub(crate) fn keyword_named(tokens: &mut Cursor) -> Result<TypeForm, Fault>
     ensures { Finds (keyword_type_grammar.reads tokens.old) result tokens.new }
 {
     let token = take_one(tokens, &KEYWORD_TYPES)?;
     Ok(TypeForm {
-        spot: spot(token),
+        spot: spot(&token),
         name: TypeName::Keyword {
             keyword: keyword_type(token.kind()),
         },
@@ -103,7 +104,7 @@ fn way(kind: u16) -> Way
 }
 
 /// Takes `ref` or `out`.
-pub(crate) fn given_way(tokens: &mut Cursor<Token>) -> Result<Way, Fault>
+pub(crate) fn given_way(tokens: &mut Cursor) -> Result<Way, Fault>
     ensures { Finds (given_way_of.reads tokens.old) result tokens.new }
 {
     Ok(way(take_one(tokens, &[KW_REF, KW_OUT])?.kind()))

@@ -12,14 +12,14 @@ ghost use Rattle.cs_read_calls.specs.Asked.{inner_of, Asked};
 use crate::delegates::delegate_type;
 use crate::enums::enum_type;
 use crate::supertypes::bases;
-use cs_grammar::{Cursor, Fault, Kinded, begins, expect, take_one};
+use cs_grammar::Fault;
+use cs_lex::{Cursor, begins, expect, take_one};
 use cs_read_calls::{Ask, Got, Level};
 use cs_read_members::{any_member, limit};
 use cs_read_modifiers::kinds::{BODIES, ITEMS, KW_CLASS, KW_ENUM, KW_INTERFACE, TYPE_WORDS};
 use cs_read_modifiers::{modifiers, start};
 use cs_read_types::kinds::{BRACE, UNBRACE};
 use cs_read_types::{any_name, spot};
-use cs_token::Token;
 use cs_tree::{Decl, Item, Kind};
 use cs_units::Marked;
 use dc_base::{Boxed, Items, Or};
@@ -36,10 +36,10 @@ pub fn kind(word: u16) -> Kind
     }
 }
 
-fn member_item<F: Fn(Global, &mut Cursor<Token>, Ask) -> Result<Got, Or<Fault>>>(
+fn member_item<F: Fn(Global, &mut Cursor, Ask) -> Result<Got, Or<Fault>>>(
     level: &Level<F>,
     alloc: Global,
-    tokens: &mut Cursor<Token>,
+    tokens: &mut Cursor,
     marked: Marked,
 ) -> Result<Item, Or<Fault>>
     requires callable { F.IsAlwaysCallable level.now.read }
@@ -52,7 +52,7 @@ fn member_item<F: Fn(Global, &mut Cursor<Token>, Ask) -> Result<Got, Or<Fault>>>
 
 fn without_body(
     alloc: Global,
-    tokens: &mut Cursor<Token>,
+    tokens: &mut Cursor,
     limit: u16,
     marked: Marked,
 ) -> Result<Decl, Or<Fault>>
@@ -65,10 +65,10 @@ fn without_body(
 }
 
 #[cycle(types)]
-fn one_more_item<F: Fn(Global, &mut Cursor<Token>, Ask) -> Result<Got, Or<Fault>>>(
+fn one_more_item<F: Fn(Global, &mut Cursor, Ask) -> Result<Got, Or<Fault>>>(
     level: &Level<F>,
     alloc: Global,
-    tokens: &mut Cursor<Token>,
+    tokens: &mut Cursor,
     nesting: u16,
     mut before: Items<Item>,
 ) -> Result<Items<Item>, Or<Fault>>
@@ -82,10 +82,10 @@ fn one_more_item<F: Fn(Global, &mut Cursor<Token>, Ask) -> Result<Got, Or<Fault>
 }
 
 #[cycle(types)]
-fn items<F: Fn(Global, &mut Cursor<Token>, Ask) -> Result<Got, Or<Fault>>>(
+fn items<F: Fn(Global, &mut Cursor, Ask) -> Result<Got, Or<Fault>>>(
     level: &Level<F>,
     alloc: Global,
-    tokens: &mut Cursor<Token>,
+    tokens: &mut Cursor,
     nesting: u16,
 ) -> Result<Items<Item>, Or<Fault>>
     requires callable { F.IsAlwaysCallable level.now.read }
@@ -103,10 +103,10 @@ fn items<F: Fn(Global, &mut Cursor<Token>, Ask) -> Result<Got, Or<Fault>>>(
 }
 
 #[cycle(types)]
-fn body_type<F: Fn(Global, &mut Cursor<Token>, Ask) -> Result<Got, Or<Fault>>>(
+fn body_type<F: Fn(Global, &mut Cursor, Ask) -> Result<Got, Or<Fault>>>(
     level: &Level<F>,
     alloc: Global,
-    tokens: &mut Cursor<Token>,
+    tokens: &mut Cursor,
     nesting: u16,
     marked: Marked,
 ) -> Result<Decl, Or<Fault>>
@@ -132,10 +132,10 @@ fn body_type<F: Fn(Global, &mut Cursor<Token>, Ask) -> Result<Got, Or<Fault>>>(
 }
 
 #[cycle(types)]
-fn type_behind<F: Fn(Global, &mut Cursor<Token>, Ask) -> Result<Got, Or<Fault>>>(
+fn type_behind<F: Fn(Global, &mut Cursor, Ask) -> Result<Got, Or<Fault>>>(
     level: &Level<F>,
     alloc: Global,
-    tokens: &mut Cursor<Token>,
+    tokens: &mut Cursor,
     nesting: u16,
     marked: Marked,
 ) -> Result<Decl, Or<Fault>>
@@ -150,10 +150,10 @@ fn type_behind<F: Fn(Global, &mut Cursor<Token>, Ask) -> Result<Got, Or<Fault>>>
 }
 
 #[cycle(types)]
-fn type_item<F: Fn(Global, &mut Cursor<Token>, Ask) -> Result<Got, Or<Fault>>>(
+fn type_item<F: Fn(Global, &mut Cursor, Ask) -> Result<Got, Or<Fault>>>(
     level: &Level<F>,
     alloc: Global,
-    tokens: &mut Cursor<Token>,
+    tokens: &mut Cursor,
     nesting: u16,
     marked: Marked,
 ) -> Result<Item, Or<Fault>>
@@ -168,10 +168,10 @@ fn type_item<F: Fn(Global, &mut Cursor<Token>, Ask) -> Result<Got, Or<Fault>>>(
 
 #[cycle(types)]
 /// What stands in a type, in which so many types may be open in one another.
-pub fn item<F: Fn(Global, &mut Cursor<Token>, Ask) -> Result<Got, Or<Fault>>>(
+pub fn item<F: Fn(Global, &mut Cursor, Ask) -> Result<Got, Or<Fault>>>(
     level: &Level<F>,
     alloc: Global,
-    tokens: &mut Cursor<Token>,
+    tokens: &mut Cursor,
     nesting: u16,
 ) -> Result<Item, Or<Fault>>
     requires callable { F.IsAlwaysCallable level.now.read }
@@ -189,10 +189,10 @@ pub fn item<F: Fn(Global, &mut Cursor<Token>, Ask) -> Result<Got, Or<Fault>>>(
 }
 
 /// A type, in which so many types may be open in one another.
-pub fn type_in_text<F: Fn(Global, &mut Cursor<Token>, Ask) -> Result<Got, Or<Fault>>>(
+pub fn type_in_text<F: Fn(Global, &mut Cursor, Ask) -> Result<Got, Or<Fault>>>(
     level: &Level<F>,
     alloc: Global,
-    tokens: &mut Cursor<Token>,
+    tokens: &mut Cursor,
     nesting: u16,
 ) -> Result<Decl, Or<Fault>>
     requires callable { F.IsAlwaysCallable level.now.read }

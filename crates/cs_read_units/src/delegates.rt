@@ -4,13 +4,13 @@ ghost use Rattle.std.specs.Prelude.{◌≡◌};
 ghost use Rattle.cs_grammar.specs.Reads.{Reads};
 ghost use Rattle.cs_units.specs.Declarations.{result as result_of, delegate_type as delegate_type_of};
 
-use cs_grammar::{Cursor, Fault, begins, expect};
+use cs_grammar::Fault;
+use cs_lex::{Cursor, begins, expect};
 use cs_read_members::params;
 use cs_read_modifiers::kinds::{KW_DELEGATE, KW_VOID};
 use cs_read_modifiers::start;
 use cs_read_types::kinds::SEMICOLON;
 use cs_read_types::{any_name, place, ty};
-use cs_token::Token;
 use cs_tree::{Decl, TypeForm};
 use cs_units::Marked;
 use dc_base::Or;
@@ -18,7 +18,7 @@ use std::alloc::Global;
 
 fn outcome(
     alloc: Global,
-    tokens: &mut Cursor<Token>,
+    tokens: &mut Cursor,
     limit: u16,
 ) -> Result<Option<TypeForm>, Or<Fault>>
     ensures { Reads ((result_of limit).reads tokens.old) result tokens.new }
@@ -33,7 +33,7 @@ fn outcome(
 /// `delegate int D(int a);`
 pub fn delegate_type(
     alloc: Global,
-    tokens: &mut Cursor<Token>,
+    tokens: &mut Cursor,
     limit: u16,
     marked: Marked,
 ) -> Result<Decl, Or<Fault>>

@@ -7,7 +7,8 @@ ghost use Rattle.cs_productions.specs.Kinds.{names, number as number_kind};
 ghost use Rattle.cs_productions.specs.Tokens.{kind as kind_of};
 ghost use Rattle.cs_units.specs.Declarations.{number_of_token, enumerator as enumerator_of, one_more_enumerator as one_more_enumerator_of, enum_type as enum_type_of};
 
-use cs_grammar::{Cursor, Fault, begins, expect, take_one};
+use cs_grammar::Fault;
+use cs_lex::{Cursor, begins, expect, take_one};
 use cs_read_modifiers::kinds::{KW_ENUM, NUMBER};
 use cs_read_modifiers::{flag, start};
 use cs_read_types::kinds::{BRACE, COLON, COMMA, EQUALS, MINUS, NAMES, UNBRACE};
@@ -28,14 +29,14 @@ fn value_of(alloc: Global, token: &Token) -> Result<u64, NoMemory>
     }
 }
 
-fn number(alloc: Global, tokens: &mut Cursor<Token>) -> Result<u64, Or<Fault>>
+fn number(alloc: Global, tokens: &mut Cursor) -> Result<u64, Or<Fault>>
     ensures { Reads ((one kind_of (number_kind ∷ []) number_of_token).reads tokens.old) result tokens.new }
 {
     let token = take_one(tokens, &[NUMBER])?;
-    Ok(value_of(alloc, token)?)
+    Ok(value_of(alloc, &token)?)
 }
 
-fn enumerator(alloc: Global, tokens: &mut Cursor<Token>) -> Result<Enumerator, Or<Fault>>
+fn enumerator(alloc: Global, tokens: &mut Cursor) -> Result<Enumerator, Or<Fault>>
     ensures { Reads (enumerator_of.reads tokens.old) result tokens.new }
 {
     let name = any_name(alloc, tokens)?;
@@ -52,7 +53,7 @@ fn enumerator(alloc: Global, tokens: &mut Cursor<Token>) -> Result<Enumerator, O
 
 fn one_more_enumerator(
     alloc: Global,
-    tokens: &mut Cursor<Token>,
+    tokens: &mut Cursor,
     mut before: Seq<Enumerator>,
 ) -> Result<Seq<Enumerator>, Or<Fault>>
     ensures { Reads ((one_more_enumerator_of before).reads tokens.old) result tokens.new }
@@ -62,7 +63,7 @@ fn one_more_enumerator(
     Ok(before)
 }
 
-fn enumerators(alloc: Global, tokens: &mut Cursor<Token>) -> Result<Seq<Enumerator>, Or<Fault>>
+fn enumerators(alloc: Global, tokens: &mut Cursor) -> Result<Seq<Enumerator>, Or<Fault>>
     ensures { Reads ((turns kind_of names (λ _. true) one_more_enumerator_of []).reads tokens.old) result tokens.new }
 {
     let mut so_far = Seq::new(alloc);
@@ -78,7 +79,7 @@ fn enumerators(alloc: Global, tokens: &mut Cursor<Token>) -> Result<Seq<Enumerat
 /// `enum E : int { A = 0, B = -1, }`
 pub fn enum_type(
     alloc: Global,
-    tokens: &mut Cursor<Token>,
+    tokens: &mut Cursor,
     limit: u16,
     marked: Marked,
 ) -> Result<Decl, Or<Fault>>

@@ -10,17 +10,17 @@ ghost use Rattle.cs_units.specs.Declarations.{one_more_step as one_more_step_of,
 ghost use Rattle.cs_read_calls.specs.Asked.{inner_of, Asked};
 
 use crate::bodies::type_in_text;
-use cs_grammar::{Cursor, Fault, begins, expect};
+use cs_grammar::Fault;
+use cs_lex::{Cursor, begins, expect};
 use cs_read_calls::{Ask, Got, Level};
 use cs_read_modifiers::kinds::{DECLARATIONS, KW_NAMESPACE, SPACES};
 use cs_read_types::kinds::{BRACE, DOT, UNBRACE};
 use cs_read_types::{any_name, name_text, place};
-use cs_token::Token;
 use cs_tree::{Decl, Path, Space, Unit};
 use dc_base::{Items, Or, Seq};
 use std::alloc::Global;
 
-fn one_more_step(alloc: Global, tokens: &mut Cursor<Token>, before: Path) -> Result<Path, Or<Fault>>
+fn one_more_step(alloc: Global, tokens: &mut Cursor, before: Path) -> Result<Path, Or<Fault>>
     ensures { Reads ((one_more_step_of before).reads tokens.old) result tokens.new }
 {
     expect(tokens, DOT)?;
@@ -30,7 +30,7 @@ fn one_more_step(alloc: Global, tokens: &mut Cursor<Token>, before: Path) -> Res
     Ok(Path { spot, names })
 }
 
-fn more_steps(alloc: Global, tokens: &mut Cursor<Token>, first: Path) -> Result<Path, Or<Fault>>
+fn more_steps(alloc: Global, tokens: &mut Cursor, first: Path) -> Result<Path, Or<Fault>>
     ensures { Reads ((turns kind_of (dot ∷ []) (λ _. true) one_more_step_of first).reads tokens.old) result tokens.new }
 {
     let mut path = first;
@@ -44,7 +44,7 @@ fn more_steps(alloc: Global, tokens: &mut Cursor<Token>, first: Path) -> Result<
 }
 
 /// The path of a namespace.
-pub fn placed_path(alloc: Global, tokens: &mut Cursor<Token>) -> Result<Path, Or<Fault>>
+pub fn placed_path(alloc: Global, tokens: &mut Cursor) -> Result<Path, Or<Fault>>
     ensures { Reads (placed_path_of.reads tokens.old) result tokens.new }
 {
     let first = any_name(alloc, tokens)?;
@@ -57,10 +57,10 @@ pub fn placed_path(alloc: Global, tokens: &mut Cursor<Token>) -> Result<Path, Or
     more_steps(alloc, tokens, first)
 }
 
-fn one_more_type<F: Fn(Global, &mut Cursor<Token>, Ask) -> Result<Got, Or<Fault>>>(
+fn one_more_type<F: Fn(Global, &mut Cursor, Ask) -> Result<Got, Or<Fault>>>(
     level: &Level<F>,
     alloc: Global,
-    tokens: &mut Cursor<Token>,
+    tokens: &mut Cursor,
     nesting: u16,
     mut before: Items<Decl>,
 ) -> Result<Items<Decl>, Or<Fault>>
@@ -73,10 +73,10 @@ fn one_more_type<F: Fn(Global, &mut Cursor<Token>, Ask) -> Result<Got, Or<Fault>
     Ok(before)
 }
 
-fn types<F: Fn(Global, &mut Cursor<Token>, Ask) -> Result<Got, Or<Fault>>>(
+fn types<F: Fn(Global, &mut Cursor, Ask) -> Result<Got, Or<Fault>>>(
     level: &Level<F>,
     alloc: Global,
-    tokens: &mut Cursor<Token>,
+    tokens: &mut Cursor,
     nesting: u16,
 ) -> Result<Items<Decl>, Or<Fault>>
     requires callable { F.IsAlwaysCallable level.now.read }
@@ -93,10 +93,10 @@ fn types<F: Fn(Global, &mut Cursor<Token>, Ask) -> Result<Got, Or<Fault>>>(
     Ok(so_far)
 }
 
-fn namespace<F: Fn(Global, &mut Cursor<Token>, Ask) -> Result<Got, Or<Fault>>>(
+fn namespace<F: Fn(Global, &mut Cursor, Ask) -> Result<Got, Or<Fault>>>(
     level: &Level<F>,
     alloc: Global,
-    tokens: &mut Cursor<Token>,
+    tokens: &mut Cursor,
     nesting: u16,
 ) -> Result<Space, Or<Fault>>
     requires callable { F.IsAlwaysCallable level.now.read }
@@ -116,10 +116,10 @@ fn namespace<F: Fn(Global, &mut Cursor<Token>, Ask) -> Result<Got, Or<Fault>>>(
     })
 }
 
-fn space<F: Fn(Global, &mut Cursor<Token>, Ask) -> Result<Got, Or<Fault>>>(
+fn space<F: Fn(Global, &mut Cursor, Ask) -> Result<Got, Or<Fault>>>(
     level: &Level<F>,
     alloc: Global,
-    tokens: &mut Cursor<Token>,
+    tokens: &mut Cursor,
     nesting: u16,
 ) -> Result<Space, Or<Fault>>
     requires callable { F.IsAlwaysCallable level.now.read }
@@ -133,10 +133,10 @@ fn space<F: Fn(Global, &mut Cursor<Token>, Ask) -> Result<Got, Or<Fault>>>(
     Ok(Space::Type { decl })
 }
 
-fn one_more_space<F: Fn(Global, &mut Cursor<Token>, Ask) -> Result<Got, Or<Fault>>>(
+fn one_more_space<F: Fn(Global, &mut Cursor, Ask) -> Result<Got, Or<Fault>>>(
     level: &Level<F>,
     alloc: Global,
-    tokens: &mut Cursor<Token>,
+    tokens: &mut Cursor,
     nesting: u16,
     mut before: Items<Space>,
 ) -> Result<Items<Space>, Or<Fault>>
@@ -149,10 +149,10 @@ fn one_more_space<F: Fn(Global, &mut Cursor<Token>, Ask) -> Result<Got, Or<Fault
     Ok(before)
 }
 
-fn spaces<F: Fn(Global, &mut Cursor<Token>, Ask) -> Result<Got, Or<Fault>>>(
+fn spaces<F: Fn(Global, &mut Cursor, Ask) -> Result<Got, Or<Fault>>>(
     level: &Level<F>,
     alloc: Global,
-    tokens: &mut Cursor<Token>,
+    tokens: &mut Cursor,
     nesting: u16,
 ) -> Result<Items<Space>, Or<Fault>>
     requires callable { F.IsAlwaysCallable level.now.read }
@@ -170,10 +170,10 @@ fn spaces<F: Fn(Global, &mut Cursor<Token>, Ask) -> Result<Got, Or<Fault>>>(
 }
 
 /// A whole text, whose types have so many types open in one another. It leaves the tokens that begin no further part.
-pub fn unit<F: Fn(Global, &mut Cursor<Token>, Ask) -> Result<Got, Or<Fault>>>(
+pub fn unit<F: Fn(Global, &mut Cursor, Ask) -> Result<Got, Or<Fault>>>(
     level: &Level<F>,
     alloc: Global,
-    tokens: &mut Cursor<Token>,
+    tokens: &mut Cursor,
     nesting: u16,
 ) -> Result<Unit, Or<Fault>>
     requires callable { F.IsAlwaysCallable level.now.read }

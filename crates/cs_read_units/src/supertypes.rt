@@ -7,17 +7,17 @@ ghost use Rattle.cs_productions.specs.Kinds.{comma};
 ghost use Rattle.cs_productions.specs.Tokens.{kind as kind_of};
 ghost use Rattle.cs_units.specs.Declarations.{one_more_base as one_more_base_of, given_bases as given_bases_of, bases as bases_of};
 
-use cs_grammar::{Cursor, Fault, begins, expect};
+use cs_grammar::Fault;
+use cs_lex::{Cursor, begins, expect};
 use cs_read_types::kinds::{COLON, COMMA};
 use cs_read_types::ty;
-use cs_token::Token;
 use cs_tree::TypeForm;
 use dc_base::{Or, Seq};
 use std::alloc::Global;
 
 fn one_more_base(
     alloc: Global,
-    tokens: &mut Cursor<Token>,
+    tokens: &mut Cursor,
     limit: u16,
     mut bases: Seq<TypeForm>,
 ) -> Result<Seq<TypeForm>, Or<Fault>>
@@ -31,7 +31,7 @@ fn one_more_base(
 
 fn more_bases(
     alloc: Global,
-    tokens: &mut Cursor<Token>,
+    tokens: &mut Cursor,
     limit: u16,
     first: Seq<TypeForm>,
 ) -> Result<Seq<TypeForm>, Or<Fault>>
@@ -49,7 +49,7 @@ fn more_bases(
 
 fn given_bases(
     alloc: Global,
-    tokens: &mut Cursor<Token>,
+    tokens: &mut Cursor,
     limit: u16,
 ) -> Result<Seq<TypeForm>, Or<Fault>>
     ensures { Reads ((given_bases_of limit).reads tokens.old) result tokens.new }
@@ -64,7 +64,7 @@ fn given_bases(
 /// The types that stand behind a colon, if there is one.
 pub fn bases(
     alloc: Global,
-    tokens: &mut Cursor<Token>,
+    tokens: &mut Cursor,
     limit: u16,
 ) -> Result<Seq<TypeForm>, Or<Fault>>
     ensures { Reads ((bases_of limit).reads tokens.old) result tokens.new }

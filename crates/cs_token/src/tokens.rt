@@ -2,13 +2,12 @@
 
 ghost use Rattle.std.specs.Prelude.{◌≡◌, IfNone, IfSome, IfOk, Some, None};
 ghost use Rattle.std.specs.Str.{chars};
-ghost use Rattle.cs_token.specs.Tokens.{kind_of as kind_of_lexeme, token_at};
+ghost use Rattle.cs_token.specs.Tokens.{kind_of, token_at};
 ghost use Rattle.cs_token.specs.Cuts.{HasOneCut};
 ghost use Rattle.cs_token.specs.Pieces.{Passes};
 
 use crate::Lexeme;
 use crate::pieces::first_piece;
-use cs_grammar::Kinded;
 use dc_base::NoMemory;
 use std::alloc::Global;
 use std::marker::Model;
@@ -32,14 +31,6 @@ impl<'a> Model for Token<'a> {
     ghost invariant = { λ t. Begins t.text.now t.kind };
 }
 
-impl<'a> Kinded for Token<'a> {
-    ghost kind_of = { λ t. kind_of_lexeme t.lexeme };
-
-    fn kind(&self) -> u16 {
-        self.kind
-    }
-}
-
 impl<'a> Token<'a> {
     /// The token that a text begins with, at this place, and what stands behind it.
     pub fn first(text: &'a str, line: u32, column: u32) -> Option<(Token<'a>, &'a str)>
@@ -59,6 +50,13 @@ impl<'a> Token<'a> {
             },
             rest,
         ))
+    }
+
+    /// What a grammar tells tokens apart by.
+    pub fn kind(&self) -> u16
+        ensures { result ≡ kind_of self.now.lexeme }
+    {
+        self.kind
     }
 
     /// Counted from 1.

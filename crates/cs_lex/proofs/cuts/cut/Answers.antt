@@ -1,44 +1,40 @@
-use Rattle.std.proofs.Common.{◌≡◌, ◌+◌, ◌^◌, ◌<◌, rules, length, ◌∙◌, ap, arith}
+use Rattle.std.proofs.Common.{◌≡◌, ◌+◌, ◌^◌, ◌<◌, ◌≤◌, false, List, ℕ, rules, length, sym, ◌∙◌, ap, subst, arith}
 use Rattle.std.specs.Str.{chars}
-use Rattle.cs_token.specs.Cuts.{place, place_of}
+use Rattle.cs_token.specs.declared.tokens.Token.{Token}
+use Rattle.cs_token.specs.Words.{behind_gap}
+use Rattle.cs_token.specs.Cuts.{Cuts}
 use Rattle.cs_token.proofs.Parts.{onward}
-use Rattle.cs_lex.proofs.Advances.{at_start, at_more, place_at, same_place, empty_text}
-use Rattle.cs_lex.proofs.Reaches.{reached_none, reached_more, reached_all}
+use Rattle.cs_lex.specs.Cursors.{Counts, tokens_from}
+use Rattle.cs_lex.proofs.Advances.{at_start, place_at, empty_text}
+use Rattle.cs_lex.proofs.Cursors.{cut_so}
 use Rattle.cs_lex.proofs.cuts.cut.Goals as goal
 
-pub loop-token-init : goal.loop-token-init
-loop-token-init c =
+pub before-requires-2 : goal.before-requires-2
+before-requires-2 c = onward c.counted-left.result.1.now c.behind_gap-here.result.now c.args.source.now c.counted-left.ensures.ends c.behind_gap-here.ensures.ends
+
+pub at-requires-clause-placed : goal.at-requires-clause-placed
+at-requires-clause-placed c =
     let source = c.args.source.now in
-    let left = c.behind_gap-left.result.now in
+    let here = c.behind_gap-here.result.now in
     let small : length source + 1 < 2 ^ 32 = omega (arith, c.requires) in
-    let at = at_start source c.before-2.result.now left c.advanced-place.result small c.advanced-place.ensures.text c.before-2.ensures c.advanced-place.ensures.value in
-    (search rules, at, rw c.new-tokens.ensures.items (reached_none (chars source) (chars left) c.behind_gap-left.ensures.rest))
-
-pub before-requires-in-Some : goal.before-requires-in-Some
-before-requires-in-Some c = onward c.behind_gap-next.result.now c.in-Some.rest.now c.loop-token.left.now c.behind_gap-next.ensures.ends c.in-Some.ensures.passes.ends
-
-pub loop-token-preserved : goal.loop-token-preserved
-loop-token-preserved c =
-    let source = c.args.source.now in
-    let left = c.loop-token.left.now in
-    let next = c.behind_gap-next.result.now in
-    let token = c.in-Some.token in
-    let at = c.loop-token.invariant.1 in
-    let more = at_more source left c.before-in-Some.result.now next c.loop-token.place c.advanced-place-in-Some.result at c.advanced-place-in-Some.ensures.text c.before-in-Some.ensures c.advanced-place-in-Some.ensures.value in
-    let stands : place token ≡ place_of (chars source) (chars left) =
-    same_place (place token) c.loop-token.place c.in-Some.ensures.placed.0 c.in-Some.ensures.placed.1 ∙ place_at source left c.loop-token.place at in
-    let reached = reached_more (chars source) c.loop-token.tokens.items token (chars left) (chars c.in-Some.rest.now) (chars next) c.loop-token.invariant.2 c.in-Some.ensures.some stands c.behind_gap-next.ensures.rest in
-    (search rules, more, rw c.in_ok-push.ensures.items reached)
+    at_start source c.before-2.result.now here c.advanced-place.result small c.advanced-place.ensures.text c.before-2.ensures c.advanced-place.ensures.value
 
 pub returns : goal.returns
 returns c =
     let source = c.args.source.now in
-    let left = c.loop-token.left.now in
-    let here = place_at source left c.loop-token.place c.loop-token.invariant.1 in
+    let here = c.behind_gap-here.result.now in
+    let left = c.counted-left.result.0 in
+    let rest = c.counted-left.result.1.now in
+    let small : length source + 1 < 2 ^ 32 = omega (arith, c.requires) in
+    let at = at_start source c.before-3.result.now rest c.advanced-line.result small c.advanced-line.ensures.text c.before-3.ensures c.advanced-line.ensures.value in
+    let place = place_at source rest c.advanced-line.result at in
+    let begun = c.behind_gap-here.ensures.rest in
+    let counts : Counts left (behind_gap false (chars source)) (chars rest) = subst (λ (text : List ℕ). Counts left text (chars rest)) begun c.counted-left.ensures.count in
+    let same : c.at.result ≡ tokens_from (chars source) left (behind_gap false (chars source)) = c.at.ensures ∙ ap (tokens_from (chars source) left) begun in
     record {
-      rest = chars left;
-      cuts = rw c.of.ensures (reached_all (chars source) c.loop-token.tokens.items (chars left) c.loop-token.invariant.2 c.in_default.ensures.none);
-      line = ap (λ p. p.0) here;
-      column = ap (λ p. p.1) here;
-      whole = empty_text left c.is_empty.result (search rules) c.is_empty.ensures;
+      rest = chars rest;
+      cuts = (subst (λ (ts : List Token). Cuts (chars source) (chars source) ts (chars rest)) (sym same) (cut_so (chars source) left (chars source) (chars rest) counts), c.counted-left.ensures.end);
+      line = ap (λ p. p.0) place;
+      column = ap (λ p. p.1) place;
+      whole = empty_text rest c.is_empty.result (search rules) c.is_empty.ensures;
     }
