@@ -210,9 +210,9 @@ pub fn named_statement<
 {
     let token = plain_name(tokens)?;
     if begins(tokens, &[COLON]) {
-        let label = text(alloc, token)?;
-        return labelled(tokens, spot(token), label);
+        let label = text(alloc, &token)?;
+        return labelled(tokens, spot(&token), label);
     }
-    let name = plain(alloc, token)?;
+    let name = plain(alloc, &token)?;
     postfix_act(here, alloc, tokens, name)
 }

@@ -9,7 +9,7 @@ ghost use Rattle.cs_read_texts.specs.Told.{at_end as at_end_of, at_token as at_t
 
 use crate::ReadFault;
 use cs_grammar::Fault;
-use cs_lex::{Cursor, Tokens, cut};
+use cs_lex::{Cursor, End, Tokens, cut};
 use cs_read_calls::{Ask, Got, Level};
 use cs_read_references::reference_text;
 use cs_read_units::unit;
@@ -22,52 +22,52 @@ fn at_token(fault: Fault, token: &Token) -> ReadFault
     ensures { result ≡ at_token_of fault token.now }
 {
     match fault {
-        Fault::Unexpected => ReadFault::Parse(token.line(), token.column()),
-        Fault::TooDeep => ReadFault::Deep(token.line(), token.column()),
+        Fault::Unexpected => ReadFault::Parse(token.line() as usize, token.column() as usize),
+        Fault::TooDeep => ReadFault::Deep(token.line() as usize, token.column() as usize),
     }
 }
 
 /// The fault behind the tokens of a text that goes on there.
-fn at_end(cut: &Tokens) -> ReadFault
-    ensures { result ≡ at_end_of cut.now }
+fn at_end(end: End) -> ReadFault
+    ensures { result ≡ at_end_of end }
 {
-    if cut.whole {
-        ReadFault::Parse(cut.line, cut.column)
+    if end.whole {
+        ReadFault::Parse(end.line, end.column)
     } else {
-        ReadFault::Lex(cut.line, cut.column)
+        ReadFault::Lex(end.line, end.column)
     }
 }
 
-fn fault_at(cut: &Tokens, left: &Cursor, fault: Fault) -> ReadFault
-    ensures { result ≡ fault_of cut.now left.now fault }
+fn fault_at(end: End, left: &Cursor, fault: Fault) -> ReadFault
+    ensures { result ≡ fault_of end left.now fault }
 {
     match left.peek() {
         Some(next) => at_token(fault, next),
-        None => at_end(cut),
+        None => at_end(end),
     }
 }
 
-fn whole(cut: &Tokens, left: &Cursor, unit: Unit) -> Result<Unit, Or<ReadFault>>
-    ensures { result ≡ whole_of cut.now left.now unit }
+fn whole(end: End, left: &Cursor, unit: Unit) -> Result<Unit, Or<ReadFault>>
+    ensures { result ≡ whole_of end left.now unit }
 {
     match left.peek() {
         Some(next) => Err(Or::Fault(at_token(Fault::Unexpected, next))),
-        None if cut.whole => Ok(unit),
-        None => Err(Or::Fault(ReadFault::Lex(cut.line, cut.column))),
+        None if end.whole => Ok(unit),
+        None => Err(Or::Fault(ReadFault::Lex(end.line, end.column))),
     }
 }
 
 /// What was read of a whole text, where these tokens are left.
 fn told(
-    cut: &Tokens,
+    end: End,
     left: &Cursor,
     read: Result<Unit, Or<Fault>>,
 ) -> Result<Unit, Or<ReadFault>>
-    ensures { result ≡ told_of cut.now left.now read }
+    ensures { result ≡ told_of end left.now read }
 {
     match read {
-        Ok(unit) => whole(cut, left, unit),
-        Err(Or::Fault(fault)) => Err(Or::Fault(fault_at(cut, left, fault))),
+        Ok(unit) => whole(end, left, unit),
+        Err(Or::Fault(fault)) => Err(Or::Fault(fault_at(end, left, fault))),
         Err(Or::NoMemory) => Err(Or::NoMemory),
     }
 }
@@ -88,10 +88,9 @@ pub fn unit_of_text<F: Fn(Global, &mut Cursor, Ask) -> Result<Got, Or<Fault>>>(
     requires size { length source.now ≤ 2 ^ 31 }
     ensures { IsRead (within level.now.at nesting) (beyond level.now.at nesting) (chars source.now) result }
 {
-    let cut = cut(alloc, source)?;
-    let mut tokens = Cursor::new(cut.tokens.items());
+    let Tokens { mut tokens, end } = cut(source);
     let read = unit(level, alloc, &mut tokens, nesting);
-    told(&cut, &tokens, read)
+    told(end, &tokens, read)
 }
 
 /// The tree of a reference text, whose types have at most so many pairs of brackets and so many types open in one another.
@@ -104,8 +103,7 @@ pub fn reference_of_text(
     requires { length source.now ≤ 2 ^ 31 }
     ensures { IsRead (text_at limit nesting) (text_at (limit + 1) (nesting + 1)) (chars source.now) result }
 {
-    let cut = cut(alloc, source)?;
-    let mut tokens = Cursor::new(cut.tokens.items());
+    let Tokens { mut tokens, end } = cut(source);
     let read = reference_text(alloc, &mut tokens, limit, nesting);
-    told(&cut, &tokens, read)
+    told(end, &tokens, read)
 }

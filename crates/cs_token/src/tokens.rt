@@ -60,17 +60,17 @@ impl<'a> Token<'a> {
     }
 
     /// Counted from 1.
-    pub fn line(&self) -> usize
+    pub fn line(&self) -> u32
         ensures { result ≡ self.now.line }
     {
-        self.line as usize
+        self.line
     }
 
     /// Counted from 1, in characters.
-    pub fn column(&self) -> usize
+    pub fn column(&self) -> u32
         ensures { result ≡ self.now.column }
     {
-        self.column as usize
+        self.column
     }
 
     /// The token's value, made anew.

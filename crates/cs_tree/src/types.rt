@@ -5,8 +5,8 @@ use dc_base::{Seq, Text};
 /// Where the first token of a part stands. Line and column count from 1; both are 0 where the part wasn't read.
 #[derive(Clone, Copy, Debug, PartialEq, Eq)]
 pub struct Spot {
-    pub line: usize,
-    pub column: usize,
+    pub line: u32,
+    pub column: u32,
 }
 
 impl Spot {
