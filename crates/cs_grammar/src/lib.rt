@@ -33,7 +33,7 @@
 //! Its reader, in `src/`. A straight one wants no proof file:
 //!
 //! ```text
-//! fn minus_one(alloc: Global, tokens: &mut Cursor<Token>, depth: u32, left: Form) -> Result<Form, Or<Fault>>
+//! fn minus_one(alloc: Global, tokens: &mut Cursor, depth: u32, left: Form) -> Result<Form, Or<Fault>>
 //!     ensures { Reads ((minus_one_of (operand_at depth) left).reads tokens.old) result tokens.new }
 //! {
 //!     expect(tokens, MINUS)?;
@@ -42,15 +42,14 @@
 //! }
 //! ```
 //!
-//! - `either` is an `if` on [`begins`]. Its first part must have tokens, and the kinds of the two must be disjoint.
+//! - `either` is an `if` on `begins`. Its first part must have tokens, and the kinds of the two must be disjoint.
 //! - `turns` is `for _ in 0..tokens.left()`, left where the next token begins no round. Its invariant is that the whole is what
 //!   `read_rounds` finds in the rounds that are left, kept by `round_on`.
 //! - Levels are a recursion on a number: the lowest is `limited`, each further one holds the one below. A depth that a chain of
 //!   rounds raises stands in the value, and `turns` and `guarded` ask it for room.
 //! - Where two productions begin alike, what was read decides by `choice`, and no look ahead.
-//! - The reader of a whole list ends in [`finish`]; the lemma `reading` turns its answer into `IsReading`.
 //!
-//! [`example`] is all of this at its smallest.
+//! The cursor over C# tokens, and `begins`, `expect`, `take_one` and `limit`, are those of the crate cs_lex.
 #![tactic(auto)]
 
 mod fault;

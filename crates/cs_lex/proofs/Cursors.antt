@@ -1,5 +1,5 @@
 -- Places among the tokens of a text.
-use Rattle.std.proofs.Common.{◌≡◌, ℕ, zero, suc, ◌+◌, ◌-◌, ◌<◌, ◌≤◌, false, List, [], ◌∷◌, ◌++◌, Some, None, MatchOption, Bor, length, length-append, drop, refl, sym, ◌∙◌, ap, subst, arith}
+use Rattle.std.proofs.Common.{◌≡◌, ℕ, zero, suc, ◌+◌, ◌-◌, ◌<◌, false, List, [], ◌∷◌, Some, None, MatchOption, Bor, length, length-append, drop, refl, sym, ◌∙◌, ap, subst, arith}
 use Rattle.std.specs.Prelude.{Option}
 use Rattle.std.specs.Option.{option_copied}
 use Rattle.std.specs.Str.{chars}
@@ -10,8 +10,7 @@ use Rattle.cs_token.specs.Tokens.{token_at}
 use Rattle.cs_token.specs.Cuts.{place_of, Cuts}
 use Rattle.cs_token.specs.Pieces.{Follows, Passes}
 use Rattle.cs_token.proofs.Parts.{onward}
-use Rattle.cs_lex.specs.Places.{At}
-use Rattle.cs_lex.specs.Cursors.{Counts, HasTokens, tokens_from, IsNext, IsCursor}
+use Rattle.cs_lex.specs.Cursors.{Counts, HasTokens, tokens_from, IsCursor}
 use Rattle.cs_lex.proofs.Advances.{place_at}
 
 -- as many tokens as are counted

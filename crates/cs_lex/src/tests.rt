@@ -2,7 +2,6 @@
 
 use super::*;
 use cs_token::{Lexeme, Token};
-use dc_base::{Or, Seq};
 use std::alloc::Global;
 use std::fmt::Write;
 use std::test::Fail;
@@ -27,12 +26,15 @@ fn shown(alloc: Global, source: &str) -> Result<String, Fail> {
     if source.len() > 99 {
         return Ok(out);
     }
-    match lex(alloc, source) {
+    match lex(source) {
         Ok(lexed) => {
-            for token in lexed.tokens.items() {
-                write!(out, "{}:{} ", token.line(), token.column())?;
-                show(alloc, token, &mut out)?;
-                out.push_str("; ")?;
+            let mut tokens = lexed.tokens;
+            for _ in 0..tokens.left() {
+                if let Some(token) = tokens.advance() {
+                    write!(out, "{}:{} ", token.line(), token.column())?;
+                    show(alloc, &token, &mut out)?;
+                    out.push_str("; ")?;
+                }
             }
             write!(out, "{}:{}", lexed.line, lexed.column)?;
         }
@@ -160,12 +162,11 @@ fn tells_where_no_token_stands(rt: HostRuntime) -> Result<(), Fail> {
 }
 
 #[test]
-fn goes_as_far_as_tokens_stand(rt: HostRuntime) -> Result<(), Fail> {
-    let tokens = cut(rt.alloc(), "a;\n ?$b")?;
-    assert_eq!(rt; tokens.tokens.len(), 3);
-    assert_eq!(rt; (tokens.line, tokens.column), (2, 3));
-    assert!(rt; !tokens.whole);
-    Ok(())
+fn goes_as_far_as_tokens_stand(rt: HostRuntime) {
+    let Tokens { tokens, end } = cut("a;\n ?$b");
+    assert_eq!(rt; tokens.left(), 3);
+    assert_eq!(rt; (end.line, end.column), (2, 3));
+    assert!(rt; !end.whole);
 }
 
 #[test]

@@ -22,11 +22,7 @@ use dc_base::Or;
 use std::alloc::Global;
 
 /// Takes a name, a literal or `this`, of these kinds.
-fn simple_among(
-    alloc: Global,
-    tokens: &mut Cursor,
-    kinds: &[u16],
-) -> Result<Measured, Or<Fault>>
+fn simple_among(alloc: Global, tokens: &mut Cursor, kinds: &[u16]) -> Result<Measured, Or<Fault>>
     requires { subset kinds.now simple_kinds ≡ true }
     ensures { Reads ((one kind_of kinds.now simple_of).reads tokens.old) result tokens.new }
 {

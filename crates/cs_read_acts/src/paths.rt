@@ -121,12 +121,7 @@ fn behind_path<
 fn path_statement<
     F: Fn(Global, &mut Cursor, Ask) -> Result<Got, Or<Fault>>,
     G: Fn(Global, &mut Cursor) -> Result<Measured, Or<Fault>>,
->(
-    here: &Place<F, G>,
-    alloc: Global,
-    tokens: &mut Cursor,
-    spot: Spot,
-) -> Result<Syntax, Or<Fault>>
+>(here: &Place<F, G>, alloc: Global, tokens: &mut Cursor, spot: Spot) -> Result<Syntax, Or<Fault>>
     requires callable { F.IsAlwaysCallable here.now.level.read }
     requires exact { (alloc : _) (tokens : _) (ask : _) (result : _) (after : _) → F.post here.now.level.read alloc tokens ask result after → Asked here.now.level.at ask tokens.now result after.now }
     requires whole_callable { G.IsAlwaysCallable here.now.whole }

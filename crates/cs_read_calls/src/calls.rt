@@ -20,12 +20,7 @@ use dc_base::{Items, Or};
 use std::alloc::Global;
 
 impl<F: Fn(Global, &mut Cursor, Ask) -> Result<Got, Or<Fault>>> Level<F> {
-    fn one_arg(
-        &self,
-        alloc: Global,
-        tokens: &mut Cursor,
-        before: Args,
-    ) -> Result<Args, Or<Fault>>
+    fn one_arg(&self, alloc: Global, tokens: &mut Cursor, before: Args) -> Result<Args, Or<Fault>>
         requires callable { F.IsAlwaysCallable self.now.read }
         requires exact { (alloc : _) (tokens : _) (ask : _) (result : _) (after : _) → F.post self.now.read alloc tokens ask result after → Asked self.now.at ask tokens.now result after.now }
         requires within { before.height ≤ self.now.at.left }
@@ -61,12 +56,7 @@ impl<F: Fn(Global, &mut Cursor, Ask) -> Result<Got, Or<Fault>>> Level<F> {
         self.one_arg(alloc, tokens, before)
     }
 
-    fn more_args(
-        &self,
-        alloc: Global,
-        tokens: &mut Cursor,
-        first: Args,
-    ) -> Result<Args, Or<Fault>>
+    fn more_args(&self, alloc: Global, tokens: &mut Cursor, first: Args) -> Result<Args, Or<Fault>>
         requires callable { F.IsAlwaysCallable self.now.read }
         requires exact { (alloc : _) (tokens : _) (ask : _) (result : _) (after : _) → F.post self.now.read alloc tokens ask result after → Asked self.now.at ask tokens.now result after.now }
         requires within { first.height ≤ self.now.at.left }

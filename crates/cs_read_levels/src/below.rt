@@ -23,12 +23,7 @@ use std::alloc::Global;
 
 /// Reads what stands one level lower than this place.
 #[cycle(levels)]
-pub fn read_below(
-    alloc: Global,
-    tokens: &mut Cursor,
-    at: Depth,
-    ask: Ask,
-) -> Result<Got, Or<Fault>>
+pub fn read_below(alloc: Global, tokens: &mut Cursor, at: Depth, ask: Ask) -> Result<Got, Or<Fault>>
     ensures { Asked at ask tokens.old result tokens.new }
 {
     match ask {
@@ -75,12 +70,7 @@ fn block_below(alloc: Global, tokens: &mut Cursor, at: Depth) -> Result<Block, O
 
 /// Reads a part of an expression at this place.
 #[cycle(levels)]
-fn form_at(
-    alloc: Global,
-    tokens: &mut Cursor,
-    at: Depth,
-    part: Part,
-) -> Result<Measured, Or<Fault>>
+fn form_at(alloc: Global, tokens: &mut Cursor, at: Depth, part: Part) -> Result<Measured, Or<Fault>>
     ensures { Reads ((forms_at at.left (inner_of at) part).reads tokens.old) result tokens.new }
 {
     let level = Level {
@@ -124,11 +114,7 @@ fn block_at(alloc: Global, tokens: &mut Cursor, at: Depth) -> Result<Block, Or<F
 }
 
 /// Reads an expression at this place: of at most so many levels as are left.
-pub fn expression(
-    alloc: Global,
-    tokens: &mut Cursor,
-    at: Depth,
-) -> Result<Measured, Or<Fault>>
+pub fn expression(alloc: Global, tokens: &mut Cursor, at: Depth) -> Result<Measured, Or<Fault>>
     ensures { Reads ((expression_of at.left (inner_of at)).reads tokens.old) result tokens.new }
 {
     form_at(alloc, tokens, at, Part::Whole)

@@ -39,10 +39,7 @@ fn accessor<F: Fn(Global, &mut Cursor, Ask) -> Result<Got, Or<Fault>>>(
 }
 
 /// The end of a property that has no setter.
-pub fn without_setter(
-    tokens: &mut Cursor,
-    getter: Option<Accessor>,
-) -> Result<Accessors, Or<Fault>>
+pub fn without_setter(tokens: &mut Cursor, getter: Option<Accessor>) -> Result<Accessors, Or<Fault>>
     ensures { Reads ((without_setter_of getter).reads tokens.old) result tokens.new }
 {
     expect(tokens, UNBRACE)?;

@@ -45,11 +45,7 @@ pub fn named(alloc: Global, tokens: &mut Cursor, kinds: &[u16]) -> Result<Name, 
     })
 }
 
-fn some_params(
-    alloc: Global,
-    tokens: &mut Cursor,
-    limit: u16,
-) -> Result<Seq<Param>, Or<Fault>>
+fn some_params(alloc: Global, tokens: &mut Cursor, limit: u16) -> Result<Seq<Param>, Or<Fault>>
     ensures { Reads ((some_params_of limit).reads tokens.old) result tokens.new }
 {
     let first = param(alloc, tokens, limit)?;
@@ -61,11 +57,7 @@ fn some_params(
 }
 
 /// Parameters, in parentheses.
-pub fn params(
-    alloc: Global,
-    tokens: &mut Cursor,
-    limit: u16,
-) -> Result<Seq<Param>, Or<Fault>>
+pub fn params(alloc: Global, tokens: &mut Cursor, limit: u16) -> Result<Seq<Param>, Or<Fault>>
     ensures { Reads ((params_of limit).reads tokens.old) result tokens.new }
 {
     expect(tokens, PAREN)?;

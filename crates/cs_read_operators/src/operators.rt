@@ -2,8 +2,9 @@
 
 ghost use Rattle.std.specs.Prelude.{◌≡◌, ◌<◌, ◌≤◌};
 ghost use Rattle.cs_grammar.specs.Reads.{Reads};
-ghost use Rattle.cs_productions.specs.Operators.{one_binary as one_binary_of, binaries as binaries_of, one_test as one_test_of, one_relation as one_relation_of, relations as relations_of, multiplicative as multiplicative_of, additive as additive_of, shift as shift_of, relational as relational_of, equality as equality_of, and as and_of, exclusive_or as exclusive_or_of, inclusive_or as inclusive_or_of, conditional_and as conditional_and_of, conditional_or as conditional_or_of, choosing as choosing_of, chosen as chosen_of, conditional as conditional_of};
+ghost use Rattle.cs_productions.specs.Operators.{one_binary as one_binary_of, binaries as binaries_of, one_test as one_test_of, one_relation as one_relation_of, relations as relations_of, multiplicative as multiplicative_of, additive as additive_of, shift as shift_of, relational as relational_of, equality as equality_of, and as and_of, exclusive_or as exclusive_or_of, inclusive_or as inclusive_or_of, conditional_and as conditional_and_of, choosing as choosing_of, chosen as chosen_of, conditional as conditional_of};
 ghost use Rattle.cs_read_calls.specs.Asked.{inner_of, Asked};
+ghost use Rattle.cs_read_operators.specs.Behind.{equality as equality_behind, conditional_or as conditional_or_behind, conditional as conditional_behind};
 
 use crate::nodes::{tested, three, two};
 use cs_grammar::Fault;
@@ -12,12 +13,33 @@ use cs_productions::{Measured, Part};
 use cs_read_calls::{Ask, Got, Level, held, too_deep};
 use cs_read_primaries::ranks_here;
 use cs_read_types::kinds::{
-    ADDITIVE, AMP, BAR, BOTH, CARET, COLON, COMPARISONS, EITHER_ONE, EQUALITY, MULTIPLICATIVE,
-    QUESTION, RELATIONAL, SHIFT, TYPE_TESTS,
+    ADDITIVE, AMP, AT_LEAST, AT_MOST, BAR, BOTH, CARET, COLON, COMPARISONS, EITHER_ONE, EQUAL,
+    EQUALITY, GREATER, KW_AS, KW_IS, LESS, MULTIPLICATIVE, QUESTION, RELATIONAL, SHIFT, SHIFT_LEFT,
+    SHIFT_RIGHT, TYPE_TESTS, UNEQUAL,
 };
 use cs_read_types::{operator, ty};
 use dc_base::Or;
 use std::alloc::Global;
+
+/// What any level behind a sum goes on with.
+const BEHIND_SUMS: [u16; 16] = [
+    SHIFT_LEFT,
+    SHIFT_RIGHT,
+    LESS,
+    GREATER,
+    AT_MOST,
+    AT_LEAST,
+    KW_IS,
+    KW_AS,
+    EQUAL,
+    UNEQUAL,
+    AMP,
+    CARET,
+    BAR,
+    BOTH,
+    EITHER_ONE,
+    QUESTION,
+];
 
 fn one_binary<F: Fn(Global, &mut Cursor, Ask) -> Result<Got, Or<Fault>>>(
     level: &Level<F>,
@@ -256,28 +278,6 @@ pub fn conditional_and<F: Fn(Global, &mut Cursor, Ask) -> Result<Got, Or<Fault>>
     binaries(level, alloc, tokens, &[BOTH], Part::InclusiveOr, left)
 }
 
-/// `a || b`
-pub fn conditional_or<F: Fn(Global, &mut Cursor, Ask) -> Result<Got, Or<Fault>>>(
-    level: &Level<F>,
-    alloc: Global,
-    tokens: &mut Cursor,
-    first: Measured,
-) -> Result<Measured, Or<Fault>>
-    requires callable { F.IsAlwaysCallable level.now.read }
-    requires exact { (alloc : _) (tokens : _) (ask : _) (result : _) (after : _) → F.post level.now.read alloc tokens ask result after → Asked level.now.at ask tokens.now result after.now }
-    ensures { Reads ((conditional_or_of level.now.at.left (inner_of level.now.at) first).reads tokens.old) result tokens.new }
-{
-    let left = conditional_and(level, alloc, tokens, first)?;
-    binaries(
-        level,
-        alloc,
-        tokens,
-        &[EITHER_ONE],
-        Part::ConditionalAnd,
-        left,
-    )
-}
-
 fn choosing<F: Fn(Global, &mut Cursor, Ask) -> Result<Got, Or<Fault>>>(
     level: &Level<F>,
     alloc: Global,
@@ -318,6 +318,66 @@ fn chosen<F: Fn(Global, &mut Cursor, Ask) -> Result<Got, Or<Fault>>>(
     choosing(level, alloc, tokens, test)
 }
 
+/// Shifts and comparisons behind a sum.
+fn comparisons_behind<F: Fn(Global, &mut Cursor, Ask) -> Result<Got, Or<Fault>>>(
+    level: &Level<F>,
+    alloc: Global,
+    tokens: &mut Cursor,
+    sum: Measured,
+) -> Result<Measured, Or<Fault>>
+    requires callable { F.IsAlwaysCallable level.now.read }
+    requires exact { (alloc : _) (tokens : _) (ask : _) (result : _) (after : _) → F.post level.now.read alloc tokens ask result after → Asked level.now.at ask tokens.now result after.now }
+    ensures { Reads ((equality_behind level.now.at.left (inner_of level.now.at) sum).reads tokens.old) result tokens.new }
+{
+    let left = binaries(level, alloc, tokens, &SHIFT, Part::Additive, sum)?;
+    let left = relations(level, alloc, tokens, left)?;
+    binaries(level, alloc, tokens, &EQUALITY, Part::Relational, left)
+}
+
+/// All two-place operators behind a sum.
+fn connectives_behind<F: Fn(Global, &mut Cursor, Ask) -> Result<Got, Or<Fault>>>(
+    level: &Level<F>,
+    alloc: Global,
+    tokens: &mut Cursor,
+    sum: Measured,
+) -> Result<Measured, Or<Fault>>
+    requires callable { F.IsAlwaysCallable level.now.read }
+    requires exact { (alloc : _) (tokens : _) (ask : _) (result : _) (after : _) → F.post level.now.read alloc tokens ask result after → Asked level.now.at ask tokens.now result after.now }
+    ensures { Reads ((conditional_or_behind level.now.at.left (inner_of level.now.at) sum).reads tokens.old) result tokens.new }
+{
+    let left = comparisons_behind(level, alloc, tokens, sum)?;
+    let left = binaries(level, alloc, tokens, &[AMP], Part::Equality, left)?;
+    let left = binaries(level, alloc, tokens, &[CARET], Part::And, left)?;
+    let left = binaries(level, alloc, tokens, &[BAR], Part::ExclusiveOr, left)?;
+    let left = binaries(level, alloc, tokens, &[BOTH], Part::InclusiveOr, left)?;
+    binaries(
+        level,
+        alloc,
+        tokens,
+        &[EITHER_ONE],
+        Part::ConditionalAnd,
+        left,
+    )
+}
+
+/// What goes on behind a sum, which is most often nothing: then its levels aren't gone through.
+fn behind_sum<F: Fn(Global, &mut Cursor, Ask) -> Result<Got, Or<Fault>>>(
+    level: &Level<F>,
+    alloc: Global,
+    tokens: &mut Cursor,
+    sum: Measured,
+) -> Result<Measured, Or<Fault>>
+    requires callable { F.IsAlwaysCallable level.now.read }
+    requires exact { (alloc : _) (tokens : _) (ask : _) (result : _) (after : _) → F.post level.now.read alloc tokens ask result after → Asked level.now.at ask tokens.now result after.now }
+    ensures { Reads ((conditional_behind level.now.at.left (inner_of level.now.at) sum).reads tokens.old) result tokens.new }
+{
+    if !begins(tokens, &BEHIND_SUMS) {
+        return Ok(sum);
+    }
+    let test = connectives_behind(level, alloc, tokens, sum)?;
+    chosen(level, alloc, tokens, test)
+}
+
 /// `a ? b : c`
 pub fn conditional<F: Fn(Global, &mut Cursor, Ask) -> Result<Got, Or<Fault>>>(
     level: &Level<F>,
@@ -329,6 +389,6 @@ pub fn conditional<F: Fn(Global, &mut Cursor, Ask) -> Result<Got, Or<Fault>>>(
     requires exact { (alloc : _) (tokens : _) (ask : _) (result : _) (after : _) → F.post level.now.read alloc tokens ask result after → Asked level.now.at ask tokens.now result after.now }
     ensures { Reads ((conditional_of level.now.at.left (inner_of level.now.at) first).reads tokens.old) result tokens.new }
 {
-    let test = conditional_or(level, alloc, tokens, first)?;
-    chosen(level, alloc, tokens, test)
+    let sum = additive(level, alloc, tokens, first)?;
+    behind_sum(level, alloc, tokens, sum)
 }

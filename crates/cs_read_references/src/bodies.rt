@@ -142,12 +142,7 @@ fn type_item(
 
 #[cycle(types)]
 /// What stands in a type, in which so many types may be open in one another.
-pub fn item(
-    alloc: Global,
-    tokens: &mut Cursor,
-    limit: u16,
-    nesting: u16,
-) -> Result<Item, Or<Fault>>
+pub fn item(alloc: Global, tokens: &mut Cursor, limit: u16, nesting: u16) -> Result<Item, Or<Fault>>
     ensures { Reads ((item_at limit nesting).reads tokens.old) result tokens.new }
 {
     let marked = modifiers(tokens)?;

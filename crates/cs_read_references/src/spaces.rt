@@ -73,12 +73,7 @@ fn namespace(
     })
 }
 
-fn space(
-    alloc: Global,
-    tokens: &mut Cursor,
-    limit: u16,
-    nesting: u16,
-) -> Result<Space, Or<Fault>>
+fn space(alloc: Global, tokens: &mut Cursor, limit: u16, nesting: u16) -> Result<Space, Or<Fault>>
     ensures { Reads ((one_space_of (type_at limit nesting)).reads tokens.old) result tokens.new }
 {
     if begins(tokens, &[KW_NAMESPACE]) {

@@ -120,11 +120,7 @@ fn cast(alloc: Global, tokens: &mut Cursor, limit: u16) -> Result<Form, Or<Fault
     Ok(Form::Cast { spot, ty, operand })
 }
 
-fn negative_or_cast(
-    alloc: Global,
-    tokens: &mut Cursor,
-    limit: u16,
-) -> Result<Form, Or<Fault>>
+fn negative_or_cast(alloc: Global, tokens: &mut Cursor, limit: u16) -> Result<Form, Or<Fault>>
     ensures { Reads ((either kind_of (minus ∷ []) negative_of (cast_of limit)).reads tokens.old) result tokens.new }
 {
     if begins(tokens, &[MINUS]) {

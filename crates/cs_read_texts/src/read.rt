@@ -58,11 +58,7 @@ fn whole(end: End, left: &Cursor, unit: Unit) -> Result<Unit, Or<ReadFault>>
 }
 
 /// What was read of a whole text, where these tokens are left.
-fn told(
-    end: End,
-    left: &Cursor,
-    read: Result<Unit, Or<Fault>>,
-) -> Result<Unit, Or<ReadFault>>
+fn told(end: End, left: &Cursor, read: Result<Unit, Or<Fault>>) -> Result<Unit, Or<ReadFault>>
     ensures { result ≡ told_of end left.now read }
 {
     match read {

@@ -130,11 +130,7 @@ pub fn param(alloc: Global, tokens: &mut Cursor, limit: u16) -> Result<Param, Or
 }
 
 /// A parameter that begins with `ref` or `out`.
-pub fn passed_param(
-    alloc: Global,
-    tokens: &mut Cursor,
-    limit: u16,
-) -> Result<Param, Or<Fault>>
+pub fn passed_param(alloc: Global, tokens: &mut Cursor, limit: u16) -> Result<Param, Or<Fault>>
     ensures { Reads ((passed_param_of limit).reads tokens.old) result tokens.new }
 {
     let way = given_way(tokens)?;

@@ -16,11 +16,7 @@ use cs_units::Marked;
 use dc_base::Or;
 use std::alloc::Global;
 
-fn outcome(
-    alloc: Global,
-    tokens: &mut Cursor,
-    limit: u16,
-) -> Result<Option<TypeForm>, Or<Fault>>
+fn outcome(alloc: Global, tokens: &mut Cursor, limit: u16) -> Result<Option<TypeForm>, Or<Fault>>
     ensures { Reads ((result_of limit).reads tokens.old) result tokens.new }
 {
     if !begins(tokens, &[KW_VOID]) {

@@ -47,11 +47,7 @@ fn more_bases(
     Ok(bases)
 }
 
-fn given_bases(
-    alloc: Global,
-    tokens: &mut Cursor,
-    limit: u16,
-) -> Result<Seq<TypeForm>, Or<Fault>>
+fn given_bases(alloc: Global, tokens: &mut Cursor, limit: u16) -> Result<Seq<TypeForm>, Or<Fault>>
     ensures { Reads ((given_bases_of limit).reads tokens.old) result tokens.new }
 {
     expect(tokens, COLON)?;
@@ -62,11 +58,7 @@ fn given_bases(
 }
 
 /// The types that stand behind a colon, if there is one.
-pub fn bases(
-    alloc: Global,
-    tokens: &mut Cursor,
-    limit: u16,
-) -> Result<Seq<TypeForm>, Or<Fault>>
+pub fn bases(alloc: Global, tokens: &mut Cursor, limit: u16) -> Result<Seq<TypeForm>, Or<Fault>>
     ensures { Reads ((bases_of limit).reads tokens.old) result tokens.new }
 {
     if begins(tokens, &[COLON]) {

@@ -1,4 +1,4 @@
-use Rattle.std.proofs.Common.{rules, arith}
+use Rattle.std.proofs.Common.{arith}
 use Rattle.std.specs.Str.{chars}
 use Rattle.cs_token.proofs.Parts.{itself, onward}
 use Rattle.cs_lex.proofs.Cursors.{led_none, led_more, led_all, shorter}

@@ -1,4 +1,4 @@
-use Rattle.std.proofs.Common.{◌≡◌, ◌+◌, ◌^◌, ◌<◌, ◌≤◌, false, List, ℕ, rules, length, sym, ◌∙◌, ap, subst, arith}
+use Rattle.std.proofs.Common.{◌≡◌, ◌+◌, ◌^◌, ◌<◌, false, List, ℕ, rules, length, sym, ◌∙◌, ap, subst, arith}
 use Rattle.std.specs.Str.{chars}
 use Rattle.cs_token.specs.declared.tokens.Token.{Token}
 use Rattle.cs_token.specs.Words.{behind_gap}

@@ -1,4 +1,4 @@
-use Rattle.std.proofs.Common.{ℕ, List, length, sym, ◌∙◌, ap, subst}
+use Rattle.std.proofs.Common.{length, sym, ◌∙◌, ap, subst}
 use Rattle.std.specs.Prelude.{Option}
 use Rattle.std.specs.Str.{chars}
 use Rattle.cs_token.specs.declared.tokens.Token.{Token}

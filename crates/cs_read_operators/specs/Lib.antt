@@ -1,0 +1,2 @@
+-- Inner facts, which only serve proofs.
+pub mod Behind
