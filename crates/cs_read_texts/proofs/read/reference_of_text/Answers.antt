@@ -15,9 +15,7 @@ pub returns : goal.returns
 returns c =
     let limit = c.args.limit in
     let nesting = c.args.nesting in
-    let ts = c.in_ok-cut.cut.tokens in
+    let cut = c.cut-tokens.result in
     let left = c.reference_text-read.new.tokens in
-    let start : c.new-tokens.result ≡ ts = c.new-tokens.ensures ∙ c.items.ensures in
-    let read = subst (λ (us : List Token). Reads ((text_at limit nesting).reads us) c.reference_text-read.result left) start c.reference_text-read.ensures in
     subst (λ (out : Result WholeText (Or ReadFault)). IsRead (text_at limit nesting) (text_at (limit + 1) (nesting + 1)) (chars c.args.source.now) out) (sym c.told.ensures)
-    (tells (exact_text_at limit nesting) (exact_text_at (limit + 1) (nesting + 1)) (deeper_text_at limit nesting) (chars c.args.source.now) c.in_ok-cut.cut left c.reference_text-read.result c.in_ok-cut.ensures read)
+    (tells (exact_text_at limit nesting) (exact_text_at (limit + 1) (nesting + 1)) (deeper_text_at limit nesting) (chars c.args.source.now) cut left c.reference_text-read.result c.cut-tokens.ensures c.reference_text-read.ensures)

@@ -19,11 +19,10 @@ pub returns : goal.returns
 returns g c =
     let d = c.args.level.now.at in
     let nesting = c.args.nesting in
-    let ts = c.in_ok-cut.cut.tokens in
+    let cut = c.cut-tokens.result in
+    let ts = cut.tokens in
     let left = c.unit-read.new.tokens in
-    let start : c.new-tokens.result ≡ ts = c.new-tokens.ensures ∙ c.items.ensures in
-    let read = subst (λ (us : List Token). Reads ((unit_at (inner_of d) nesting).reads us) c.unit-read.result left) start c.unit-read.ensures in
-    let whole = subst (λ (n : ℕ). Reads ((unit_at (below (block_at d.levels d.ranks d.blocks) d.blocks d.ranks n) nesting).reads ts) c.unit-read.result left) c.requires.whole read in
+    let whole = subst (λ (n : ℕ). Reads ((unit_at (below (block_at d.levels d.ranks d.blocks) d.blocks d.ranks n) nesting).reads ts) c.unit-read.result left) c.requires.whole c.unit-read.ensures in
     subst (λ (out : Result WholeText (Or ReadFault)). IsRead (within d nesting) (beyond d nesting) (chars c.args.source.now) out) (sym c.told.ensures)
     (tells (exact_unit_at nesting (exact_inside d.levels d.ranks d.blocks)) (exact_unit_at (nesting + 1) (exact_inside (d.levels + 2) (d.ranks + 1) (d.blocks + 1)))
-    (grows_unit_at nesting (nesting + 1) (omega arith) (spreads_inside d.levels d.ranks d.blocks c.requires.ranks c.requires.blocks)).deeper (chars c.args.source.now) c.in_ok-cut.cut left c.unit-read.result c.in_ok-cut.ensures whole)
+    (grows_unit_at nesting (nesting + 1) (omega arith) (spreads_inside d.levels d.ranks d.blocks c.requires.ranks c.requires.blocks)).deeper (chars c.args.source.now) cut left c.unit-read.result c.cut-tokens.ensures whole)

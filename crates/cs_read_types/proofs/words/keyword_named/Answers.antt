@@ -7,4 +7,4 @@ use Rattle.cs_read_types.proofs.words.keyword_named.Goals as goal
 pub returns : goal.returns
 returns c =
     rw (c.keyword_type.ensures, c.kind.ensures, c.spot.ensures)
-    (one_of kind keyword_types keyword_type_at c.args.tokens.now c.in_ok-token.token.now c.take_one.new.tokens c.in_ok-token.ensures)
+    (one_of kind keyword_types keyword_type_at c.args.tokens.now c.in_ok-token.token c.take_one.new.tokens c.in_ok-token.ensures)

@@ -1,0 +1,7 @@
+use Rattle.cs_productions.specs.Kinds.{names}
+use Rattle.cs_productions.specs.Tokens.{kind, name_of}
+use Rattle.cs_read_types.proofs.Ones.{one_of}
+use Rattle.cs_read_types.proofs.words.any_name.Goals as goal
+
+pub returns : goal.returns
+returns c = rw (c.in_ok-text.ensures, c.spot.ensures) (one_of kind names name_of c.args.tokens.now c.in_ok-token.token c.take_one.new.tokens c.in_ok-token.ensures)
