@@ -6,4 +6,4 @@ use Rattle.cs_read_types.proofs.Ones.{one_of}
 use Rattle.cs_read_types.proofs.leaves.global_leaf.Goals as goal
 
 pub returns : goal.returns
-returns c = rw (c.in_ok-text.ensures, c.spot.ensures) (one_of kind (global ∷ []) global_leaf c.args.tokens.now c.in_ok-token.token c.take_one.new.tokens c.in_ok-token.ensures)
+returns c = rw (c.in_ok-text.ensures, c.spot-spot.ensures) (one_of kind (global ∷ []) global_leaf c.args.tokens.now c.in_ok-token.token c.take_one.new.tokens c.in_ok-token.ensures)
