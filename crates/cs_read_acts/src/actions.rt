@@ -187,7 +187,7 @@ fn plain_name<'a>(tokens: &mut Cursor<'a>) -> Result<Token<'a>, Fault>
     ensures name { IfOk result (λ taken. simple_of taken ≡ global_leaf taken) }
 {
     let token = take_one(tokens, &PLAIN_NAMES)?;
-    Ok(&token)
+    Ok(token)
 }
 
 fn plain(alloc: Global, token: &Token) -> Result<Measured, NoMemory>

@@ -99,7 +99,7 @@ fn body_type(
     let items = items(alloc, tokens, limit, nesting)?;
     expect(tokens, UNBRACE)?;
     Ok(Decl::Body {
-        spot: start(&marked, spot(word)),
+        spot: start(&marked, spot(&word)),
         note: None,
         mods: marked.mods,
         kind: kind(word.kind()),

@@ -121,7 +121,7 @@ fn body_type<F: Fn(Global, &mut Cursor, Ask) -> Result<Got, Or<Fault>>>(
     let items = items(level, alloc, tokens, nesting)?;
     expect(tokens, UNBRACE)?;
     Ok(Decl::Body {
-        spot: start(&marked, spot(word)),
+        spot: start(&marked, spot(&word)),
         note: None,
         mods: marked.mods,
         kind: kind(word.kind()),
