@@ -4,7 +4,7 @@ ghost use Rattle.std.specs.Prelude.{◌≡◌, ◌<◌, ◌≤◌};
 ghost use Rattle.cs_grammar.specs.Reads.{Reads};
 ghost use Rattle.cs_productions.specs.Operators.{one_binary as one_binary_of, binaries as binaries_of, one_test as one_test_of, one_relation as one_relation_of, relations as relations_of, multiplicative as multiplicative_of, additive as additive_of, shift as shift_of, relational as relational_of, equality as equality_of, and as and_of, exclusive_or as exclusive_or_of, inclusive_or as inclusive_or_of, conditional_and as conditional_and_of, choosing as choosing_of, chosen as chosen_of, conditional as conditional_of};
 ghost use Rattle.cs_read_calls.specs.Asked.{inner_of, Asked};
-ghost use Rattle.cs_read_operators.specs.Behind.{equality as equality_behind, conditional_or as conditional_or_behind, conditional as conditional_behind};
+ghost use Rattle.cs_read_operators.specs.Behind.{equality as equality_behind, inclusive_or as inclusive_or_behind, conditional_or as conditional_or_behind, conditional as conditional_behind};
 
 use crate::nodes::{tested, three, two};
 use cs_grammar::Fault;
@@ -334,6 +334,23 @@ fn comparisons_behind<F: Fn(Global, &mut Cursor, Ask) -> Result<Got, Or<Fault>>>
     binaries(level, alloc, tokens, &EQUALITY, Part::Relational, left)
 }
 
+/// Comparisons and `&`, `^` and `|` behind a sum.
+fn bits_behind<F: Fn(Global, &mut Cursor, Ask) -> Result<Got, Or<Fault>>>(
+    level: &Level<F>,
+    alloc: Global,
+    tokens: &mut Cursor,
+    sum: Measured,
+) -> Result<Measured, Or<Fault>>
+    requires callable { F.IsAlwaysCallable level.now.read }
+    requires exact { (alloc : _) (tokens : _) (ask : _) (result : _) (after : _) → F.post level.now.read alloc tokens ask result after → Asked level.now.at ask tokens.now result after.now }
+    ensures { Reads ((inclusive_or_behind level.now.at.left (inner_of level.now.at) sum).reads tokens.old) result tokens.new }
+{
+    let left = comparisons_behind(level, alloc, tokens, sum)?;
+    let left = binaries(level, alloc, tokens, &[AMP], Part::Equality, left)?;
+    let left = binaries(level, alloc, tokens, &[CARET], Part::And, left)?;
+    binaries(level, alloc, tokens, &[BAR], Part::ExclusiveOr, left)
+}
+
 /// All two-place operators behind a sum.
 fn connectives_behind<F: Fn(Global, &mut Cursor, Ask) -> Result<Got, Or<Fault>>>(
     level: &Level<F>,
@@ -345,10 +362,7 @@ fn connectives_behind<F: Fn(Global, &mut Cursor, Ask) -> Result<Got, Or<Fault>>>
     requires exact { (alloc : _) (tokens : _) (ask : _) (result : _) (after : _) → F.post level.now.read alloc tokens ask result after → Asked level.now.at ask tokens.now result after.now }
     ensures { Reads ((conditional_or_behind level.now.at.left (inner_of level.now.at) sum).reads tokens.old) result tokens.new }
 {
-    let left = comparisons_behind(level, alloc, tokens, sum)?;
-    let left = binaries(level, alloc, tokens, &[AMP], Part::Equality, left)?;
-    let left = binaries(level, alloc, tokens, &[CARET], Part::And, left)?;
-    let left = binaries(level, alloc, tokens, &[BAR], Part::ExclusiveOr, left)?;
+    let left = bits_behind(level, alloc, tokens, sum)?;
     let left = binaries(level, alloc, tokens, &[BOTH], Part::InclusiveOr, left)?;
     binaries(
         level,
